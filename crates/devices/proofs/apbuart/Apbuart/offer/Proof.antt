@@ -1,0 +1,13 @@
+-- Each return follows from the tests that led to it. Assumes nothing.
+use borrow.Author.Needs.{needs}
+use Rattle.devices.proofs.apbuart.Promises.{promises}
+use Rattle.devices.specs.Apbuart.{offer}
+use Rattle.devices.proofs.apbuart.Apbuart.offer.Statement.{statement}
+use Rattle.devices.proofs.apbuart.Apbuart.offer.Tie as tie
+
+pub offer-spec : {M : Type 1} → statement M
+unfolding offer
+offer-spec =
+    tie.close
+    (tie.spec (λ c κs. search needs) (λ c κs. search needs) (λ c κs. search needs)
+    (λ c. search promises depth 10) (λ c. search promises depth 10))
