@@ -1,5 +1,5 @@
-// Plays the serial port on the compiled model, one line a call with its whole answer: first the bench examples, then the
-// rules that they leave out.
+// Plays the serial port on the compiled model, one line a call with its answer and the line's level after it: first the
+// bench examples, then the rules that they leave out.
 use devices::apbuart::Answer;
 use devices::apbuart::Apbuart;
 use devices::fifo::DEPTH;
@@ -18,25 +18,40 @@ fn main() {
 fn receive_queue() -> Apbuart {
     say(b"Receive queue\n");
     let receiving = write(Apbuart::reset_state(), Apbuart::CONTROL, 0x1);
-    let one = offer(receiving, 0x41);
-    let full = filled(read(one, Apbuart::STATUS));
-    offer(read(full, Apbuart::STATUS), 0x49)
+    let one = read(offer(receiving, 0x41), Apbuart::STATUS);
+    let full = read(filled(one), Apbuart::STATUS);
+    offer(full, 0x49)
 }
 
-// CONTROL 5, one byte, two DATA reads: the level stays until CONTROL is written. The port with its level at 1.
+// The port with its queue filled up behind the one byte that it holds, 42 first.
+fn filled(one: Apbuart) -> Apbuart {
+    let mut port = one;
+    let mut byte = 0x42;
+    let mut left = DEPTH - 1;
+    while 0 < left {
+        port = offer(port, byte);
+        byte = std::num::wrapping_add_u8(byte, 1);
+        left -= 1;
+    }
+    port
+}
+
+// CONTROL 5, one byte, two DATA reads: the level stays until CONTROL is written. TI alone raises it too. The port with its
+// level at 1.
 fn line_level() -> Apbuart {
     say(b"Line level\n");
     let raised = offer(write(Apbuart::reset_state(), Apbuart::CONTROL, 0x5), 0x41);
-    let drained = read(raised, Apbuart::DATA);
-    write(read(drained, Apbuart::DATA), Apbuart::CONTROL, 0x5);
+    let drained = read(read(raised, Apbuart::DATA), Apbuart::DATA);
+    write(write(drained, Apbuart::CONTROL, 0x5), Apbuart::CONTROL, 0x8);
     raised
 }
 
-// With RE off the queue is kept, and 7 comes before 8.
+// With RE off the queue is kept and still raises the line, and 7 comes before 8.
 fn receiver_off(full: Apbuart) {
     say(b"Receiver off\n");
-    let kept = read(write(full, Apbuart::CONTROL, 0x0), Apbuart::DATA);
-    let on = write(offer(kept, 0x49), Apbuart::CONTROL, 0x1);
+    let off = write(full, Apbuart::CONTROL, 0x4);
+    let kept = offer(read(off, Apbuart::DATA), 0x49);
+    let on = write(kept, Apbuart::CONTROL, 0x1);
     read(read(on, Apbuart::DATA), Apbuart::DATA);
 }
 
@@ -55,9 +70,9 @@ fn transmitter(full: Apbuart) -> Apbuart {
 fn registers(sending: Apbuart) {
     say(b"Registers\n");
     let scaled = read(write(sending, Apbuart::SCALER, 0x1ff), Apbuart::SCALER);
-    let same = read(write(scaled, Apbuart::STATUS, 0xffff_ffff), Apbuart::STATUS);
-    let none = read(read(write(same, 0x10, 0xffff_ffff), 0x10), 0x1);
-    read(read(reset(none), Apbuart::CONTROL), Apbuart::STATUS);
+    let ignored = read(write(scaled, Apbuart::STATUS, 0xffff_ffff), Apbuart::STATUS);
+    let unmapped = read(read(write(ignored, 0x10, 0xffff_ffff), 0x10), 0x1);
+    read(read(reset(unmapped), Apbuart::CONTROL), Apbuart::STATUS);
 }
 
 // A port that claims one byte too many, and one whose CONTROL lacks bit 31: each call is refused with 9.
@@ -65,25 +80,12 @@ fn ill_formed(port: Apbuart) {
     say(b"Ill formed\n");
     let mut queue = port.queue;
     queue.count = DEPTH as u8 + 1;
-    let mut long = port;
-    long.queue = queue;
-    reset(read(long, Apbuart::STATUS));
-    let mut bare = port;
-    bare.control = 0x7fff_ffff;
-    offer(write(bare, Apbuart::CONTROL, 0x0), 0x41);
-}
-
-// The port once as many bytes as it has places for were offered, 42 first: those that find room fill its queue.
-fn filled(port: Apbuart) -> Apbuart {
-    let mut now = port;
-    let mut byte = 0x42;
-    let mut left = DEPTH;
-    while 0 < left {
-        now = now.offer(byte).port;
-        byte = std::num::wrapping_add_u8(byte, 1);
-        left -= 1;
-    }
-    now
+    let mut overfull = port;
+    overfull.queue = queue;
+    reset(read(overfull, Apbuart::STATUS));
+    let mut without_fa = port;
+    without_fa.control = 0x7fff_ffff;
+    offer(write(without_fa, Apbuart::CONTROL, 0x0), 0x41);
 }
 
 fn read(port: Apbuart, offset: u32) -> Apbuart {

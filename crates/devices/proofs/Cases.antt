@@ -1,15 +1,9 @@
--- Tests against `cond`, `&&` and `||`: `search cases` closes a return from the tests that led to it. Assumes nothing.
+-- Tests against `&&` and `||`: `search cases` closes a return from the tests that led to it. Assumes nothing.
 use Prim.Native.Nat.{ℕ, _≤_, _<_}
 use mathlib.Core.Path.{_≡_}
 use lib.Dec.{ltb}
-use mathlib.Core.Bool.{Bool, true, false, cond, _&&_, _||_}
+use mathlib.Core.Bool.{Bool, true, false, _&&_, _||_}
 use borrow.Author.Tests.{le-ltb, lt-ltb, le-leb, lt-leb, eq-eqb, ne-eqb}
-
-pub cond-true : {A : Type 0} (b : Bool) (x y z : A) → b ≡ true → x ≡ y → x ≡ cond b y z
-cond-true b x y z t e = rw t e
-
-pub cond-false : {A : Type 0} (b : Bool) (x y z : A) → b ≡ false → x ≡ z → x ≡ cond b y z
-cond-false b x y z t e = rw t e
 
 pub and-true : (a b x : Bool) → a ≡ true → x ≡ b → x ≡ (a && b)
 and-true a b x t e = rw t e
@@ -32,4 +26,4 @@ le-answered m n k e l = rw (← e) (le-ltb m k l)
 
 pub ruleset tests = (lt-answered, le-answered, le-ltb, lt-ltb, le-leb, lt-leb, eq-eqb, ne-eqb)
 
-pub ruleset cases = (cond-true, cond-false, and-true, and-false, or-true, or-false, tests)
+pub ruleset cases = (and-true, and-false, or-true, or-false, tests)

@@ -1,6 +1,6 @@
 -- The serial port (APBUART): paper 01, section "Serial port", with what "Refusal numbers" says of a device's own call.
--- One definition a rule, under the sentence that it states, in that section's order, but that the level's rule stands
--- before the two that use it.
+-- One definition a rule, under the sentence that it states, in that section's order; what several rules use stands before
+-- them: answers, CONTROL's bits, what is ill formed, and the line's level.
 pub mod View
 pub mod Laws
 use Prim.Native.Nat.{ℕ, _+_, _*_, _^_, _%_}
@@ -58,7 +58,7 @@ abbrev pub FA : ℕ
 FA = 31
 
 -- "A state is ill formed exactly when .. a port's SCALER exceeds 0xFF, a port's CONTROL lacks bit 31, or a receive queue
--- claims more than 8 bytes. A case that the chosen types exclude needs no test": SCALER is a byte.
+-- claims more than 8 bytes. A case that the chosen types exclude needs no test": the code's SCALER is a `u8`.
 unfoldable pub wellFormed : Port → Bool
 wellFormed p = bit FA (p .control) && leb (length (p .queue)) depth
 
@@ -76,54 +76,64 @@ abbrev pub withLevel : Bool → Port → Port
 withLevel level p = record { control = p .control; scaler = p .scaler; queue = p .queue; level = level }
 
 -- "the queue isn't empty"
-abbrev pub waiting : Port → Bool
-waiting p = ltb 0 (length (p .queue))
+abbrev pub notEmpty : Port → Bool
+notEmpty p = ltb 0 (length (p .queue))
 
--- "Line level: worked out anew on a CONTROL write and on an accepted byte only. It is 1 if (RI and queue not empty) or TI."
+-- "Line level: worked out anew on a CONTROL write and on an accepted byte only. It is 1 if (RI and queue not empty) or
+-- TI."
 abbrev pub lineLevel : Port → Bool
-lineLevel p = (bit RI (p .control) && waiting p) || bit TI (p .control)
+lineLevel p = (bit RI (p .control) && notEmpty p) || bit TI (p .control)
 
 abbrev pub updateLevel : Port → Port
 updateLevel p = withLevel (lineLevel p) p
 
--- "0x00 DATA. Read: 0 if RE is 0 or the queue is empty; else the oldest byte, which leaves."
 abbrev pub DATA : ℕ
 DATA = 0x00
 
-abbrev pub takeOldest : List ℕ → Port → Answer
-takeOldest [] p = accepted 0 p
-takeOldest (oldest ∷ younger) p = accepted oldest (withQueue younger p)
+abbrev pub oldest : List ℕ → ℕ
+oldest [] = 0
+oldest (byte ∷ bytes) = byte
 
+abbrev pub younger : List ℕ → List ℕ
+younger [] = []
+younger (byte ∷ bytes) = bytes
+
+-- "0x00 DATA. Read: 0 if RE is 0 or the queue is empty; else the oldest byte, which leaves."
 abbrev pub readData : Port → Answer
-readData p = cond (bit RE (p .control)) (takeOldest (p .queue) p) (accepted 0 p)
+readData p =
+    cond (bit RE (p .control) && notEmpty p)
+    (accepted (oldest (p .queue)) (withQueue (younger (p .queue)) p))
+    (accepted 0 p)
 
 -- "Write: the low 8 bits are emitted at once if TE is 1, else dropped. A drop is no refusal."
 abbrev pub writeData : ℕ → Port → Answer
 writeData value p = cond (bit TE (p .control)) (emitting (value % 2 ^ 8) p) (accepted 0 p)
 
--- "0x04 STATUS. Writes are ignored. Read: 0x80000086, plus 1 if the queue isn't empty, plus the queue's length times 2^26."
 abbrev pub STATUS : ℕ
 STATUS = 0x04
 
+-- "0x04 STATUS. Writes are ignored. Read: 0x80000086, plus 1 if the queue isn't empty, plus the queue's length times
+-- 2^26."
 abbrev pub readStatus : Port → Answer
-readStatus p = accepted (0x80000086 + cond (waiting p) 1 0 + length (p .queue) * 2 ^ 26) p
+readStatus p = accepted (0x80000086 + cond (notEmpty p) 1 0 + length (p .queue) * 2 ^ 26) p
 
--- "0x08 CONTROL. All 32 bits are stored, bit 31 forced to 1." "Clearing RE keeps the queue."
 abbrev pub CONTROL : ℕ
 CONTROL = 0x08
 
+-- "0x08 CONTROL. All 32 bits are stored, bit 31 forced to 1." "Clearing RE keeps the queue."
 abbrev pub writeControl : ℕ → Port → Answer
 writeControl value p = accepted 0 (updateLevel (withControl (value % 2 ^ 31 + 2 ^ 31) p))
 
--- "0x0C SCALER. The low 8 bits are stored."
 abbrev pub SCALER : ℕ
 SCALER = 0x0C
 
+-- "0x0C SCALER. The low 8 bits are stored."
 abbrev pub writeScaler : ℕ → Port → Answer
 writeScaler value p = accepted 0 (withScaler (value % 2 ^ 8) p)
 
--- "An aligned word offset without a register below reads 0 and ignores writes"; a device's own call "answers an offset
--- that is no register's, odd ones included, as a word offset without a register is answered."
+-- CONTROL and SCALER read what is stored ("R/W" in 000). "An aligned word offset without a register below reads 0 and
+-- ignores writes"; a device's own call "answers an offset that is no register's, odd ones included, as a word offset
+-- without a register is answered."
 abbrev pub readRegister : ℕ → Port → Answer
 readRegister offset p =
     cond (eqb offset DATA) (readData p)

@@ -1,7 +1,9 @@
--- What of a `Fifo` counts: the bytes that wait, oldest first.
+-- What of a `Fifo` counts, the bytes that wait, oldest first, and what a push does to them.
 use Prim.Native.Nat.{ℕ, zero, suc, _%_}
-use mathlib.Core.List.{List, [], _∷_}
-use lib.ListN.{getD}
+use mathlib.Core.Bool.{cond}
+use mathlib.Core.List.{List, [], _∷_, _++_}
+use lib.ListN.{length, getD}
+use lib.Dec.{leb}
 use Rattle.devices.specs.Apbuart.{depth}
 use Rattle.devices.specs.declared.fifo.Fifo.{Fifo}
 
@@ -13,11 +15,6 @@ ring d places head (suc count) = getD places (head % d) 0 ∷ ring d places (suc
 abbrev pub queued : Fifo → List ℕ
 queued f = ring depth (f .places) (f .head) (f .count)
 
--- the byte that has waited longest, 0 where none waits, and those behind it
-abbrev pub oldest : List ℕ → ℕ
-oldest [] = 0
-oldest (byte ∷ bytes) = byte
-
-abbrev pub younger : List ℕ → List ℕ
-younger [] = []
-younger (byte ∷ bytes) = bytes
+-- one byte more at the end, where there is room for it; a port refuses it elsewhere
+abbrev pub pushed : ℕ → List ℕ → List ℕ
+pushed byte bytes = cond (leb depth (length bytes)) bytes (bytes ++ (byte ∷ []))

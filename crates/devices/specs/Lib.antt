@@ -5,3 +5,4 @@ pub mod Word
 pub mod Refusal
 pub mod Apbuart
 pub mod Fifo
+mod Examples

@@ -7,7 +7,7 @@ ghost use lib.ListN.{length};
 ghost use Rattle.devices.specs.Word.{bit};
 ghost use Rattle.devices.specs.Apbuart as uart;
 ghost use Rattle.devices.specs.Fifo.{queued};
-ghost use Rattle.devices.specs.Apbuart.View.{portOf, answerOf, Promised};
+ghost use Rattle.devices.specs.Apbuart.View.{portOf, answerOf, Conforms};
 use crate::fifo::DEPTH;
 use crate::fifo::Fifo;
 use crate::refusal;
@@ -15,7 +15,7 @@ use crate::refusal;
 pub struct Apbuart {
     pub control: u32,
     pub scaler: u8,
-    // The interrupt line's level, as a CONTROL write or an accepted byte left it.
+    // The interrupt line's level, as the last CONTROL write, accepted byte or reset left it.
     pub level: bool,
     pub queue: Fifo,
 }
@@ -96,7 +96,7 @@ impl Apbuart {
     pub const STATUS_IDLE: u32 = 0x8000_0086;
     // STATUS, data ready.
     pub const DR: u32 = 0x0000_0001;
-    // STATUS, one received byte: their count stands from bit 26 up.
+    // STATUS, one received byte: the count stands from bit 26 up.
     pub const RCNT: u32 = 0x0400_0000;
 
     pub const RESET_CONTROL: u32 = 0x8000_0000;
@@ -129,7 +129,7 @@ impl Apbuart {
 
     // The reset call; an ill-formed port is refused it like any other.
     pub fn reset(self) -> Answer
-        ensures { λ r. ⌜ Promised self (uart.reset (portOf self)) r ⌝ }
+        ensures { λ r. ⌜ Conforms self (uart.reset (portOf self)) r ⌝ }
     {
         if self.well_formed() {
             Answer::accepted(0, Self::reset_state())
@@ -139,7 +139,7 @@ impl Apbuart {
     }
 
     pub fn read(self, offset: u32) -> Answer
-        ensures { λ r. ⌜ Promised self (uart.read offset (portOf self)) r ⌝ }
+        ensures { λ r. ⌜ Conforms self (uart.read offset (portOf self)) r ⌝ }
     {
         if self.well_formed() {
             self.read_register(offset)
@@ -149,7 +149,7 @@ impl Apbuart {
     }
 
     pub fn write(self, offset: u32, value: u32) -> Answer
-        ensures { λ r. ⌜ Promised self (uart.write offset value (portOf self)) r ⌝ }
+        ensures { λ r. ⌜ Conforms self (uart.write offset value (portOf self)) r ⌝ }
     {
         if self.well_formed() {
             self.write_register(offset, value)
@@ -158,9 +158,9 @@ impl Apbuart {
         }
     }
 
-    // A byte arrives on the line.
+    // A byte is offered to the receiver.
     pub fn offer(self, byte: u8) -> Answer
-        ensures { λ r. ⌜ Promised self (uart.offer byte (portOf self)) r ⌝ }
+        ensures { λ r. ⌜ Conforms self (uart.offer byte (portOf self)) r ⌝ }
     {
         if self.well_formed() {
             self.receive(byte)
@@ -171,7 +171,7 @@ impl Apbuart {
 
     fn read_register(self, offset: u32) -> Answer
         requires { ⌜ length (queued (self .queue)) ≤ uart.depth ⌝ }
-        ensures { λ r. ⌜ Promised self (uart.readRegister offset (portOf self)) r ⌝ }
+        ensures { λ r. ⌜ Conforms self (uart.readRegister offset (portOf self)) r ⌝ }
     {
         if offset == Self::DATA {
             return self.read_data();
@@ -189,7 +189,7 @@ impl Apbuart {
     }
 
     fn write_register(self, offset: u32, value: u32) -> Answer
-        ensures { λ r. ⌜ Promised self (uart.writeRegister offset value (portOf self)) r ⌝ }
+        ensures { λ r. ⌜ Conforms self (uart.writeRegister offset value (portOf self)) r ⌝ }
     {
         if offset == Self::DATA {
             return self.write_data(value);
@@ -207,26 +207,30 @@ impl Apbuart {
     }
 
     fn read_data(self) -> Answer
-        ensures { λ r. ⌜ Promised self (uart.readData (portOf self)) r ⌝ }
+        ensures { λ r. ⌜ Conforms self (uart.readData (portOf self)) r ⌝ }
     {
-        if self.control / Self::RE % 2 == 1 {
-            self.take_oldest()
+        if self.readable() {
+            let mut port = self;
+            port.queue = self.queue.pop();
+            Answer::accepted(self.queue.oldest() as u32, port)
         } else {
             Answer::accepted(0, self)
         }
     }
 
-    // An empty queue needs no test: its oldest byte reads 0, and it stays empty.
-    fn take_oldest(self) -> Answer
-        ensures { λ r. ⌜ Promised self (uart.takeOldest (portOf self .queue) (portOf self)) r ⌝ }
+    // Whether a DATA read takes a byte.
+    fn readable(self) -> bool
+        ensures { λ r. ⌜ r ≡ (bit uart.RE (self .control) && uart.notEmpty (portOf self)) ⌝ }
     {
-        let mut port = self;
-        port.queue = self.queue.pop();
-        Answer::accepted(self.queue.oldest() as u32, port)
+        if self.control / Self::RE % 2 == 1 {
+            0 < self.queue.len()
+        } else {
+            false
+        }
     }
 
     fn write_data(self, value: u32) -> Answer
-        ensures { λ r. ⌜ Promised self (uart.writeData value (portOf self)) r ⌝ }
+        ensures { λ r. ⌜ Conforms self (uart.writeData value (portOf self)) r ⌝ }
     {
         if self.control / Self::TE % 2 == 1 {
             Answer::emitting((value % 256) as u8, self)
@@ -238,12 +242,12 @@ impl Apbuart {
     // A queue within its depth keeps the count below bit 31, so that the sum fits.
     fn read_status(self) -> Answer
         requires { ⌜ length (queued (self .queue)) ≤ uart.depth ⌝ }
-        ensures { λ r. ⌜ Promised self (uart.readStatus (portOf self)) r ⌝ }
+        ensures { λ r. ⌜ Conforms self (uart.readStatus (portOf self)) r ⌝ }
     {
-        let waiting = self.queue.len();
-        if 0 < waiting {
+        let count = self.queue.len();
+        if 0 < count {
             Answer::accepted(
-                Self::STATUS_IDLE + Self::DR + waiting as u32 * Self::RCNT,
+                Self::STATUS_IDLE + Self::DR + count as u32 * Self::RCNT,
                 self,
             )
         } else {
@@ -252,7 +256,7 @@ impl Apbuart {
     }
 
     fn write_control(self, value: u32) -> Answer
-        ensures { λ r. ⌜ Promised self (uart.writeControl value (portOf self)) r ⌝ }
+        ensures { λ r. ⌜ Conforms self (uart.writeControl value (portOf self)) r ⌝ }
     {
         let mut port = self;
         port.control = value % Self::FA + Self::FA;
@@ -260,7 +264,7 @@ impl Apbuart {
     }
 
     fn write_scaler(self, value: u32) -> Answer
-        ensures { λ r. ⌜ Promised self (uart.writeScaler value (portOf self)) r ⌝ }
+        ensures { λ r. ⌜ Conforms self (uart.writeScaler value (portOf self)) r ⌝ }
     {
         let mut port = self;
         port.scaler = (value % 256) as u8;
@@ -269,13 +273,13 @@ impl Apbuart {
 
     // The refusals stand in the order of their numbers.
     fn receive(self, byte: u8) -> Answer
-        ensures { λ r. ⌜ Promised self (uart.receive byte (portOf self)) r ⌝ }
+        ensures { λ r. ⌜ Conforms self (uart.receive byte (portOf self)) r ⌝ }
     {
-        let waiting = self.queue.len();
+        let count = self.queue.len();
         if self.control / Self::RE % 2 != 1 {
             return Answer::refused(refusal::RECEIVER_OFF, self);
         }
-        if DEPTH <= waiting {
+        if DEPTH <= count {
             return Answer::refused(refusal::QUEUE_FULL, self);
         }
         let mut port = self;
@@ -302,10 +306,10 @@ impl Apbuart {
     }
 
     fn receive_interrupt(self) -> bool
-        ensures { λ r. ⌜ r ≡ (bit uart.RI (self .control) && uart.waiting (portOf self)) ⌝ }
+        ensures { λ r. ⌜ r ≡ (bit uart.RI (self .control) && uart.notEmpty (portOf self)) ⌝ }
     {
         if self.control / Self::RI % 2 == 1 {
-            0 < self.queue.len()
+            1 <= self.queue.len()
         } else {
             false
         }

@@ -1,11 +1,9 @@
 // The receive queue of a serial port: a ring of DEPTH places, by value.
 ghost use mathlib.Core.Path.{_≡_};
-ghost use mathlib.Core.Bool.{cond};
-ghost use mathlib.Core.List.{[], _∷_, _++_};
+ghost use mathlib.Core.List.{[]};
 ghost use lib.ListN.{length};
-ghost use lib.Dec.{leb};
-ghost use Rattle.devices.specs.Apbuart.{depth};
-ghost use Rattle.devices.specs.Fifo.{queued, oldest, younger};
+ghost use Rattle.devices.specs.Apbuart.{oldest, younger};
+ghost use Rattle.devices.specs.Fifo.{queued, pushed};
 
 // How many bytes can wait.
 pub const DEPTH: usize = 8;
@@ -60,7 +58,7 @@ impl Fifo {
 
     // The queue with one byte more at its end; a full queue stays as it is.
     pub fn push(mut self, byte: u8) -> Self
-        ensures { λ r. ⌜ queued r ≡ cond (leb depth (length (queued self))) (queued self) (queued self ++ (byte ∷ [])) ⌝ }
+        ensures { λ r. ⌜ queued r ≡ pushed byte (queued self) ⌝ }
     {
         if DEPTH <= self.count as usize {
             return self;

@@ -8,7 +8,8 @@ use native.Mathlib.Decide.{decLt}
 use native.Mathlib.Omega.{arith}
 use lib.ListN.{length, getD, set}
 use lib.Seq.{getD-set-same, getD-set-other}
-use Rattle.devices.specs.Fifo.{ring, oldest, younger}
+use Rattle.devices.specs.Apbuart.{oldest, younger}
+use Rattle.devices.specs.Fifo.{ring}
 
 -- two places fewer than `d` apart are different places
 apart : (d h k : ℕ) → 0 < k → k < d → (h + k) % d ≡ h % d → ⊥
@@ -38,7 +39,9 @@ module _ (d : ℕ) (b : List ℕ) where
   ring-more h (suc n) = rw (add-suc, ← suc-add) (ap (λ (l : List ℕ). getD b (h % d) 0 ∷ l) (ring-more (suc h) n))
 
   -- a place that holds none of the bytes may change
-  ring-beside : (i x h n : ℕ) → ((j : ℕ) → j < n → (h + j) % d ≡ i → ⊥) → ring d (set b i x) h n ≡ ring d b h n
+  ring-beside :
+      (i x h n : ℕ) → ((j : ℕ) → j < n → (h + j) % d ≡ i → ⊥) →
+      ring d (set b i x) h n ≡ ring d b h n
   ring-beside i x h zero other = refl
   ring-beside i x h (suc n) other =
       rw (
@@ -47,7 +50,9 @@ module _ (d : ℕ) (b : List ℕ) where
       )
 
 -- a byte stored behind the last one joins the end
-pub ring-push : (d : ℕ) (b : List ℕ) (h n x : ℕ) → n < d → length b ≡ d → ring d (set b ((h + n) % d) x) h (n + 1) ≡ ring d b h n ++ (x ∷ [])
+pub ring-push :
+    (d : ℕ) (b : List ℕ) (h n x : ℕ) → n < d → length b ≡ d →
+    ring d (set b ((h + n) % d) x) h (n + 1) ≡ ring d b h n ++ (x ∷ [])
 ring-push d b h n x room whole =
     let within : (h + n) % d < length b = rw whole (mod-lt (h + n) (omega arith)) in
     rw (

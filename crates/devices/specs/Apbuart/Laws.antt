@@ -1,15 +1,18 @@
 -- What follows from the definitions of the serial port, for the layers above. Assumes nothing.
 use Prim.Native.Nat.{ℕ, suc, _^_, _/_, _%_, _≤_}
-use mathlib.Core.Path.{_≡_, refl, sym, ap, _∙_}
+use mathlib.Core.Path.{_≡_, refl}
 use mathlib.Core.Bool.{Bool, true, false, cond, and-eq-true-iff}
 use mathlib.Core.List.{List, [], _∷_, _++_}
+use native.Mathlib.Nat.{le-trans}
 use native.Mathlib.Omega.{arith}
 use lib.ListN.{length, length-append}
 use lib.Dec.{leb, ltb}
 use borrow.Author.Tests.{leb-true, le-leb, ltb-true, eq-eqb}
 use Rattle.devices.specs.Word.{bit}
 use Rattle.devices.specs.Refusal.{illFormed}
-use Rattle.devices.specs.Apbuart.{Port, Answer, FA, RE, depth, wellFormed, guarded, refused, accepted, takeOldest, receive, updateLevel, withQueue, resetState, readRegister, writeRegister, writeControl, writeScaler, read, write, offer, reset}
+use Rattle.devices.specs.Apbuart.{Port, Answer, FA, depth, wellFormed, refused, accepted, guarded}
+use Rattle.devices.specs.Apbuart.{withQueue, updateLevel, younger, writeControl, writeScaler}
+use Rattle.devices.specs.Apbuart.{readRegister, writeRegister, receive, resetState, read, write, offer, reset}
 
 -- a well-formed port's CONTROL has bit 31, and its queue is within the depth
 well-control : (p : Port) → wellFormed p ≡ true → bit FA (p .control) ≡ true
@@ -27,16 +30,19 @@ unfolding wellFormed
 well-by p c q = rw c (le-leb (length (p .queue)) depth q)
 
 -- an answer chosen by a test
-chosen : (b : Bool) (x y : Answer) → (b ≡ true → wellFormed (x .port) ≡ true) → (b ≡ false → wellFormed (y .port) ≡ true) → wellFormed (cond b x y .port) ≡ true
+chosen :
+    (b : Bool) (x y : Answer) → (b ≡ true → wellFormed (x .port) ≡ true) → (b ≡ false → wellFormed (y .port) ≡ true) →
+    wellFormed (cond b x y .port) ≡ true
 chosen true x y f g = f refl
 chosen false x y f g = g refl
 
+fewer : (q : List ℕ) → length (younger q) ≤ length q
+fewer [] = omega arith
+fewer (b ∷ q) = omega arith
+
 module _ (p : Port) (w : wellFormed p ≡ true) where
-  oldest-leaves : (q : List ℕ) → p .queue ≡ q → wellFormed (takeOldest q p .port) ≡ true
-  oldest-leaves [] e = w
-  oldest-leaves (b ∷ q) e =
-      let claimed : suc (length q) ≤ depth = rw e at (well-queue p w) in
-      well-by _ (well-control p w) (omega arith)
+  oldest-left : wellFormed (withQueue (younger (p .queue)) p) ≡ true
+  oldest-left = well-by _ (well-control p w) (le-trans (fewer (p .queue)) (well-queue p w))
 
   control-written : (value : ℕ) → wellFormed (writeControl value p .port) ≡ true
   control-written value =
@@ -46,11 +52,15 @@ module _ (p : Port) (w : wellFormed p ≡ true) where
   scaler-written : (value : ℕ) → wellFormed (writeScaler value p .port) ≡ true
   scaler-written value = well-by _ (well-control p w) (well-queue p w)
 
-  byte-joined : (byte : ℕ) → ltb (length (p .queue)) depth ≡ true → wellFormed (updateLevel (withQueue (p .queue ++ (byte ∷ [])) p)) ≡ true
+  byte-joined :
+      (byte : ℕ) → ltb (length (p .queue)) depth ≡ true →
+      wellFormed (updateLevel (withQueue (p .queue ++ (byte ∷ [])) p)) ≡ true
   byte-joined byte room = well-by _ (well-control p w) (simp length-append (omega (arith, ltb-true)))
 
--- a call neither makes an ill-formed port nor mends one
-keeps : (p : Port) (x : Answer) → (wellFormed p ≡ true → wellFormed (x .port) ≡ true) → wellFormed (guarded p x .port) ≡ wellFormed p
+-- a call neither makes an ill-formed port nor repairs one
+keeps :
+    (p : Port) (x : Answer) → (wellFormed p ≡ true → wellFormed (x .port) ≡ true) →
+    wellFormed (guarded p x .port) ≡ wellFormed p
 keeps p x f = by-test (wellFormed p) refl
   where
     by-test : (b : Bool) → wellFormed p ≡ b → wellFormed (cond b x (refused illFormed p) .port) ≡ wellFormed p
@@ -59,11 +69,12 @@ keeps p x f = by-test (wellFormed p) refl
 
 pub read-keeps : (offset : ℕ) (p : Port) → wellFormed (read offset p .port) ≡ wellFormed p
 unfolding read
-read-keeps offset p = keeps p (readRegister offset p) (λ w. search (chosen, oldest-leaves) depth 12)
+read-keeps offset p = keeps p (readRegister offset p) (λ w. search (chosen, oldest-left) depth 12)
 
 pub write-keeps : (offset value : ℕ) (p : Port) → wellFormed (write offset value p .port) ≡ wellFormed p
 unfolding write
-write-keeps offset value p = keeps p (writeRegister offset value p) (λ w. search (chosen, control-written, scaler-written) depth 12)
+write-keeps offset value p =
+    keeps p (writeRegister offset value p) (λ w. search (chosen, control-written, scaler-written) depth 12)
 
 pub offer-keeps : (byte : ℕ) (p : Port) → wellFormed (offer byte p .port) ≡ wellFormed p
 unfolding offer

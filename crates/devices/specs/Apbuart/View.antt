@@ -1,4 +1,4 @@
--- What of the code's structs counts, and what each call on a port promises.
+-- What of the code's structs counts, and the contract of each call on a port.
 use mathlib.Core.Path.{_≡_}
 use Rattle.devices.specs.Refusal.{notRefused}
 use Rattle.devices.specs.Apbuart.{Port, Answer}
@@ -19,7 +19,8 @@ answerOf a =
       port = portOf (a .port);
     }
 
--- The answer `a` of a call on the port `u` is the definition's, and "a refusal returns the same machine": alike in every field.
-pub record Promised (u : Apbuart) (defined : Answer) (a : code.Answer) : Type 0 where
+-- The answer `a` of a call on the port `u` is the one that is defined. "A refusal returns the same machine": where it is
+-- refused the port comes back as `u`, in every field, and so does an ill-formed one, which "comes back alike in every field".
+pub record Conforms (u : Apbuart) (defined : Answer) (a : code.Answer) : Type 0 where
   pub answer : answerOf a ≡ defined
   pub same : (a .refusal ≡ notRefused → ⊥) → a .port ≡ u

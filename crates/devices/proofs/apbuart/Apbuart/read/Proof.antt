@@ -1,6 +1,6 @@
 -- Each return follows from the tests that led to it. Assumes nothing.
 use borrow.Author.Needs.{needs}
-use Rattle.devices.proofs.apbuart.Promises.{promises, tested}
+use Rattle.devices.proofs.apbuart.Conforming.{conforming, tested}
 use Rattle.devices.specs.Apbuart.{read}
 use Rattle.devices.proofs.apbuart.Apbuart.read.Statement.{statement}
 use Rattle.devices.proofs.apbuart.Apbuart.read.Tie as tie
@@ -10,4 +10,4 @@ unfolding read
 read-spec =
     tie.close
     (tie.spec (λ c κs. search needs) (λ c κs. search tested) (λ c κs. search needs)
-    (λ c. search promises depth 10) (λ c. search promises depth 10))
+    (λ c. search conforming depth 10) (λ c. search conforming depth 10))

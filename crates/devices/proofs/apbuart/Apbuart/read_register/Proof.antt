@@ -1,13 +1,13 @@
 -- Each return follows from the tests that led to it. Assumes nothing.
 use borrow.Author.Needs.{needs}
-use Rattle.devices.proofs.apbuart.Promises.{promises}
+use Rattle.devices.proofs.apbuart.Conforming.{conforming}
 use Rattle.devices.proofs.apbuart.Apbuart.read_register.Statement.{statement}
 use Rattle.devices.proofs.apbuart.Apbuart.read_register.Tie as tie
 
 pub read-register-spec : {M : Type 1} → statement M
 read-register-spec =
     tie.close
-    (tie.spec (λ c κs. search needs) (λ c. search promises depth 10) (λ c κs. search needs)
-    (λ c. search promises depth 10) (λ c κs. search needs) (λ c. search promises depth 10) (λ c. search needs)
-    (λ c κs. search needs) (λ c. search promises depth 10) (λ c κs. search needs)
-    (λ c. search promises depth 10))
+    (tie.spec (λ c κs. search needs) (λ c. search conforming depth 10) (λ c κs. search needs)
+    (λ c. search conforming depth 10) (λ c κs. search needs) (λ c. search conforming depth 10)
+    (λ c. search needs) (λ c κs. search needs) (λ c. search conforming depth 10) (λ c κs. search needs)
+    (λ c. search conforming depth 10))

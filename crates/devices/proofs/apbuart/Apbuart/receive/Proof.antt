@@ -1,12 +1,12 @@
 -- Each return follows from the tests that led to it. Assumes nothing.
 use borrow.Author.Needs.{needs}
-use Rattle.devices.proofs.apbuart.Promises.{promises}
+use Rattle.devices.proofs.apbuart.Conforming.{conforming}
 use Rattle.devices.proofs.apbuart.Apbuart.receive.Statement.{statement}
 use Rattle.devices.proofs.apbuart.Apbuart.receive.Tie as tie
 
 pub receive-spec : {M : Type 1} → statement M
 receive-spec =
     tie.close
-    (tie.spec (λ c κs. search needs) (λ c κs. search needs) (λ c. search promises depth 10)
-    (λ c κs. search needs) (λ c. search promises depth 10) (λ c κs. search needs) (λ c κs. search needs)
-    (λ c κs. search needs) (λ c. search promises depth 10))
+    (tie.spec (λ c κs. search needs) (λ c κs. search needs) (λ c. search conforming depth 10)
+    (λ c κs. search needs) (λ c. search conforming depth 10) (λ c κs. search needs) (λ c κs. search needs)
+    (λ c κs. search needs) (λ c. search conforming depth 10))

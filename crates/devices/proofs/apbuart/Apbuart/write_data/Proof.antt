@@ -1,6 +1,6 @@
 -- Each return follows from the tests that led to it. Assumes nothing.
 use borrow.Author.Needs.{needs}
-use Rattle.devices.proofs.apbuart.Promises.{promises}
+use Rattle.devices.proofs.apbuart.Conforming.{conforming}
 use Rattle.devices.proofs.apbuart.Apbuart.write_data.Statement.{statement}
 use Rattle.devices.proofs.apbuart.Apbuart.write_data.Tie as tie
 
@@ -8,4 +8,4 @@ pub write-data-spec : {M : Type 1} → statement M
 write-data-spec =
     tie.close
     (tie.spec (λ c. search needs) (λ c κs. search needs) (λ c κs. search needs)
-    (λ c. search promises depth 10) (λ c. search promises depth 10))
+    (λ c. search conforming depth 10) (λ c. search conforming depth 10))
