@@ -90,6 +90,7 @@ updateLevel p = withLevel (lineLevel p) p
 abbrev pub DATA : ℕ
 DATA = 0x00
 
+-- the byte that has waited longest, and those behind it
 abbrev pub oldest : List ℕ → ℕ
 oldest [] = 0
 oldest (byte ∷ bytes) = byte

@@ -15,6 +15,6 @@ ring d places head (suc count) = getD places (head % d) 0 ∷ ring d places (suc
 abbrev pub queued : Fifo → List ℕ
 queued f = ring depth (f .places) (f .head) (f .count)
 
--- one byte more at the end, where there is room for it; a port refuses it elsewhere
+-- one byte more at the end, where there is room for it; where there is none a port has refused the byte before
 abbrev pub pushed : ℕ → List ℕ → List ℕ
 pushed byte bytes = cond (leb depth (length bytes)) bytes (bytes ++ (byte ∷ []))
