@@ -1,4 +1,4 @@
-// The receive queue of a serial port: a ring of DEPTH places, by value.
+// The receive queue of a serial port: a ring of DEPTH places, by value. Only the port calls it.
 ghost use mathlib.Core.Path.{_≡_};
 ghost use mathlib.Core.List.{[]};
 ghost use lib.ListN.{length};
@@ -17,7 +17,7 @@ pub struct Fifo {
 }
 
 impl Fifo {
-    pub fn empty() -> Self
+    pub(crate) fn empty() -> Self
         ensures { λ r. ⌜ queued r ≡ [] ⌝ }
     {
         Fifo {
@@ -27,14 +27,14 @@ impl Fifo {
         }
     }
 
-    pub fn len(self) -> usize
+    pub(crate) fn len(self) -> usize
         ensures { λ r. ⌜ r ≡ length (queued self) ⌝ }
     {
         self.count as usize
     }
 
     // The byte that has waited longest; 0 where none waits.
-    pub fn oldest(self) -> u8
+    pub(crate) fn oldest(self) -> u8
         ensures { λ r. ⌜ r ≡ oldest (queued self) ⌝ }
     {
         if self.count == 0 {
@@ -45,7 +45,7 @@ impl Fifo {
     }
 
     // The queue once its oldest byte has left.
-    pub fn pop(mut self) -> Self
+    pub(crate) fn pop(mut self) -> Self
         ensures { λ r. ⌜ queued r ≡ younger (queued self) ⌝ }
     {
         if self.count == 0 {
@@ -57,7 +57,7 @@ impl Fifo {
     }
 
     // The queue with one byte more at its end; a full queue stays as it is.
-    pub fn push(mut self, byte: u8) -> Self
+    pub(crate) fn push(mut self, byte: u8) -> Self
         ensures { λ r. ⌜ queued r ≡ pushed byte (queued self) ⌝ }
     {
         if DEPTH <= self.count as usize {
