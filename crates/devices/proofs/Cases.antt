@@ -11,13 +11,13 @@ and-true a b x t e = rw t e
 pub and-false : (a b x : Bool) → a ≡ false → x ≡ false → x ≡ (a && b)
 and-false a b x t e = rw t e
 
-pub or-true : (a b x : Bool) → a ≡ true → x ≡ true → x ≡ (a || b)
-or-true a b x t e = rw t e
+-- tests of what a call answered
+pub or-true : (r a b x : Bool) → r ≡ a → r ≡ true → x ≡ true → x ≡ (a || b)
+or-true r a b x e t f = rw (← e, t) f
 
-pub or-false : (a b x : Bool) → a ≡ false → x ≡ b → x ≡ (a || b)
-or-false a b x t e = rw t e
+pub or-false : (r a b x : Bool) → r ≡ a → r ≡ false → x ≡ b → x ≡ (a || b)
+or-false r a b x e t f = rw (← e, t) f
 
--- a test of what a call answered
 pub lt-answered : (m n k : ℕ) → m ≡ n → m < k → ltb n k ≡ true
 lt-answered m n k e l = rw (← e) (lt-ltb m k l)
 

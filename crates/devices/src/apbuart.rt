@@ -4,7 +4,6 @@ ghost use mathlib.Core.Path.{_≡_};
 ghost use mathlib.Core.Bool.{_&&_};
 ghost use Prim.Native.Nat.{_≤_};
 ghost use lib.ListN.{length};
-ghost use Rattle.devices.specs.Word.{bit};
 ghost use Rattle.devices.specs.Apbuart as uart;
 ghost use Rattle.devices.specs.Fifo.{queued};
 ghost use Rattle.devices.specs.Apbuart.View.{portOf, answerOf, Conforms};
@@ -209,23 +208,12 @@ impl Apbuart {
     fn read_data(self) -> Answer
         ensures { λ r. ⌜ Conforms self (uart.readData (portOf self)) r ⌝ }
     {
-        if self.readable() {
+        if self.byte_waits(self.control / Self::RE % 2 == 1) {
             let mut port = self;
             port.queue = self.queue.pop();
             Answer::accepted(self.queue.oldest() as u32, port)
         } else {
             Answer::accepted(0, self)
-        }
-    }
-
-    // Whether a DATA read takes a byte.
-    fn readable(self) -> bool
-        ensures { λ r. ⌜ r ≡ (bit uart.RE (self .control) && uart.notEmpty (portOf self)) ⌝ }
-    {
-        if self.control / Self::RE % 2 == 1 {
-            0 < self.queue.len()
-        } else {
-            false
         }
     }
 
@@ -298,20 +286,17 @@ impl Apbuart {
     fn line_level(self) -> bool
         ensures { λ r. ⌜ r ≡ uart.lineLevel (portOf self) ⌝ }
     {
-        if self.receive_interrupt() {
+        if self.byte_waits(self.control / Self::RI % 2 == 1) {
             true
         } else {
             self.control / Self::TI % 2 == 1
         }
     }
 
-    fn receive_interrupt(self) -> bool
-        ensures { λ r. ⌜ r ≡ (bit uart.RI (self .control) && uart.notEmpty (portOf self)) ⌝ }
+    // Whether a byte waits for what is enabled: for the receiver a DATA read takes it, for its interrupt it raises the line.
+    fn byte_waits(self, enabled: bool) -> bool
+        ensures { λ r. ⌜ r ≡ (enabled && uart.notEmpty (portOf self)) ⌝ }
     {
-        if self.control / Self::RI % 2 == 1 {
-            1 <= self.queue.len()
-        } else {
-            false
-        }
+        if enabled { 0 < self.queue.len() } else { false }
     }
 }

@@ -1,6 +1,6 @@
 -- Laws of the ring, over its depth `d`, its places `b`, the head `h` and the count `n`. Assumes nothing.
-use Prim.Native.Nat.{ℕ, zero, suc, _+_, _-_, _%_, _≤_, _<_}
-use mathlib.Core.Path.{_≡_, refl, sym, ap, _∙_}
+use Prim.Native.Nat.{ℕ, zero, suc, _+_, _-_, _%_, _<_}
+use mathlib.Core.Path.{_≡_, refl, sym, ap}
 use mathlib.Core.List.{List, [], _∷_, _++_}
 use native.Mathlib.Nat.{add-zero, add-suc, suc-add, mod-lt, mod-eq-of-lt, mod-eq-sub-mod, mod-mod, mod-add-mod, suc-mod}
 use native.Mathlib.Numerals.{add-one, sub-one}

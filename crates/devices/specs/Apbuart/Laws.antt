@@ -1,5 +1,5 @@
 -- What follows from the definitions of the serial port, for the layers above. Assumes nothing.
-use Prim.Native.Nat.{ℕ, suc, _^_, _/_, _%_, _≤_}
+use Prim.Native.Nat.{ℕ, _^_, _/_, _%_, _≤_}
 use mathlib.Core.Path.{_≡_, refl}
 use mathlib.Core.Bool.{Bool, true, false, cond, and-eq-true-iff}
 use mathlib.Core.List.{List, [], _∷_, _++_}

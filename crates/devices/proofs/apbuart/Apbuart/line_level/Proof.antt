@@ -6,6 +6,4 @@ use Rattle.devices.proofs.apbuart.Apbuart.line_level.Tie as tie
 
 pub line-level-spec : {M : Type 1} → statement M
 line-level-spec =
-    tie.close
-    (tie.spec (λ c κs. search needs) (λ c. rw (← c .before .receive-interrupt .ensures) (search cases))
-    (λ c. rw (← c .before .before .receive-interrupt .ensures) (search cases)))
+    tie.close (tie.spec (λ c κs. search needs) (λ c. search cases) (λ c. search cases))
