@@ -1,15 +1,31 @@
--- Tests against `&&` and `||`: `search cases` closes a return from the tests that led to it. Assumes nothing.
+-- Tests against `cond`, `&&` and `||`: `search cases` closes a return from the tests that led to it. Assumes nothing.
 use Prim.Native.Nat.{ℕ, _≤_, _<_}
-use mathlib.Core.Path.{_≡_}
+use mathlib.Core.Path.{_≡_, refl}
 use lib.Dec.{ltb}
-use mathlib.Core.Bool.{Bool, true, false, _&&_, _||_}
+use mathlib.Core.Bool.{Bool, true, false, cond, _&&_, _||_}
 use borrow.Author.Tests.{le-ltb, lt-ltb, le-leb, lt-leb, eq-eqb, ne-eqb}
+
+pub if-true : {A : Type 0} (b : Bool) (x y z : A) → b ≡ true → x ≡ y → x ≡ cond b y z
+if-true b x y z t e = rw t e
+
+pub if-false : {A : Type 0} (b : Bool) (x y z : A) → b ≡ false → x ≡ z → x ≡ cond b y z
+if-false b x y z t e = rw t e
 
 pub and-true : (a b x : Bool) → a ≡ true → x ≡ b → x ≡ (a && b)
 and-true a b x t e = rw t e
 
 pub and-false : (a b x : Bool) → a ≡ false → x ≡ false → x ≡ (a && b)
 and-false a b x t e = rw t e
+
+pub both-true : (a b : Bool) → a ≡ true → b ≡ true → (a && b) ≡ true
+both-true a b s t = rw (s, t) refl
+
+pub left-false : (a b : Bool) → a ≡ false → (a && b) ≡ false
+left-false a b t = rw t refl
+
+pub right-false : (a b : Bool) → b ≡ false → (a && b) ≡ false
+right-false true b t = t
+right-false false b t = refl
 
 -- tests of what a call answered
 pub or-true : (r a b x : Bool) → r ≡ a → r ≡ true → x ≡ true → x ≡ (a || b)
@@ -26,4 +42,4 @@ le-answered m n k e l = rw (← e) (le-ltb m k l)
 
 pub ruleset tests = (lt-answered, le-answered, le-ltb, lt-ltb, le-leb, lt-leb, eq-eqb, ne-eqb)
 
-pub ruleset cases = (and-true, and-false, or-true, or-false, tests)
+pub ruleset cases = (if-true, if-false, and-true, and-false, both-true, left-false, right-false, or-true, or-false, tests)

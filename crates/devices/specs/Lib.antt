@@ -3,6 +3,8 @@
 -- definitions, for the layers above, and so does `Examples`, the bench examples.
 pub mod Word
 pub mod Refusal
+pub mod Cond
 pub mod Apbuart
 pub mod Fifo
+pub mod Gptimer
 mod Examples

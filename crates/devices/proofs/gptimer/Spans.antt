@@ -1,0 +1,152 @@
+-- What the code does with a span, and with the time of a pulse, is the direct form. Assumes nothing.
+use Prim.Native.Nat.{ℕ, zero, suc, _+_, _-_, _*_, _/_, _%_, _^_, _<_, _≤_, min}
+use mathlib.Core.Path.{_≡_, refl, ap, sym, _∙_}
+use mathlib.Core.Bool.{Bool, true, false, cond}
+use mathlib.Core.List.{List, [], _∷_, map}
+use native.Mathlib.Omega.{arith}
+use native.Mathlib.Nat.{mod-lt, div-le-self, le-div-iff-mul-le, div-lt-iff-lt-mul, min-eq-left, min-eq-right, le-of-lt}
+use native.Mathlib.Numerals.{add-one, one-add}
+use lib.ListN.{length, length-map}
+use borrow.Author.Tests.{lt-ltb, le-ltb}
+use Rattle.devices.specs.Gptimer.{restart, withScaler, withTimers, noPulses, advance, skip}
+use Rattle.devices.specs.Gptimer.Direct.{never, ends, stands, endsAt, servedTimer, ticked, elapsed, due, place}
+use Rattle.devices.specs.Gptimer.Direct.{dueTick, pulseTick, firstTick, tickCycle}
+use Rattle.devices.specs.Gptimer.Direct.Time.{served-none, servedPulses-none, advance-elapsed}
+use Rattle.devices.specs.Gptimer.Direct.Due.{four, skip-advance, due-later, first-later}
+use Rattle.devices.specs.declared.gptimer.Timer.{Timer}
+use Rattle.devices.specs.declared.gptimer.Served.{Served}
+use Rattle.devices.specs.declared.gptimer.Gptimer.{Gptimer}
+use Rattle.devices.specs.declared.gptimer.Elapsed.{Elapsed}
+
+-- the code's word on an array's length is one on what its elements denote
+pub length-of : {A B : Type 0} (f : A → B) (l : List A) (n : ℕ) → length (map f l) ≡ n → length l ≡ n
+length-of f l n e = sym (length-map l f) ∙ e
+
+shape : (ts : List Timer) → length ts ≡ 4 → ts ≡ place ts 0 ∷ place ts 1 ∷ place ts 2 ∷ place ts 3 ∷ []
+shape ts whole =
+    four (λ ts. ts ≡ place ts 0 ∷ place ts 1 ∷ place ts 2 ∷ place ts 3 ∷ []) (λ a b c d. refl) ts whole
+
+-- the four timers, one after the other
+pub ticks-by :
+    (cycles ticks : ℕ) (u : Gptimer) (a b c d : Served) → length (u .timers) ≡ 4 →
+    a ≡ servedTimer ticks ticks (place (u .timers) 0) →
+    b ≡ servedTimer ticks (a .underflows) (place (u .timers) 1) →
+    c ≡ servedTimer ticks (b .underflows) (place (u .timers) 2) →
+    d ≡ servedTimer ticks (c .underflows) (place (u .timers) 3) →
+    _≡_ {A = Elapsed}
+    (record {
+      cycles = cycles;
+      pulses = a .pulses ∷ b .pulses ∷ c .pulses ∷ d .pulses ∷ [];
+      unit = withTimers (a .timer ∷ b .timer ∷ c .timer ∷ d .timer ∷ []) u;
+    })
+    (ticked cycles ticks u)
+ticks-by cycles ticks u a b c d whole ea eb ec ed = rw (shape (u .timers) whole, ed, ec, eb, ea) refl
+
+-- a span before the next tick, and one past it
+pub before-tick :
+    (u : Gptimer) (n : ℕ) → length (u .timers) ≡ 4 → n ≤ u .scaler →
+    _≡_ {A = Elapsed}
+    (record { cycles = n; pulses = 0 ∷ 0 ∷ 0 ∷ 0 ∷ []; unit = withScaler (u .scaler - n) u })
+    (advance n u)
+unfolding elapsed ends stands
+before-tick u n whole l =
+    rw (
+      advance-elapsed n u,
+      lt-ltb n (suc (u .scaler)) (omega arith),
+      served-none (u .timers),
+      servedPulses-none (u .timers),
+      four (λ ts. noPulses ts ≡ 0 ∷ 0 ∷ 0 ∷ 0 ∷ []) (λ a b c d. refl) (u .timers) whole,
+    )
+    refl
+
+module _ (x : Elapsed) (u : Gptimer) (whole : length (u .timers) ≡ 4) where
+  pub past-tick :
+      (n r : ℕ) → r ≡ restart (u .sreload) → u .scaler < n →
+      x ≡ ticked n (1 + (n - (u .scaler + 1)) / (r + 1)) (withScaler (r - (n - (u .scaler + 1)) % (r + 1)) u) →
+      x ≡ advance n u
+  unfolding elapsed ends stands
+  past-tick n r er l e =
+      rw (advance-elapsed n u, le-ltb n (suc (u .scaler)) (omega arith), ← er)
+      (simp (add-one, one-add) at e)
+
+  -- a skip to the next pulse, and one to its limit
+  pub skips-to-pulse :
+      (limit d : ℕ) → limit < 2 ^ 64 → d ≡ tickCycle u (firstTick (u .timers)) → d < limit → x ≡ advance d u →
+      x ≡ skip limit u
+  skips-to-pulse limit d small due l e =
+      rw (skip-advance limit u whole (omega arith), ← due, min-eq-left (le-of-lt l)) e
+
+  pub skips-to-limit :
+      (limit d : ℕ) → limit < 2 ^ 64 → d ≡ tickCycle u (firstTick (u .timers)) → limit ≤ d → x ≡ advance limit u →
+      x ≡ skip limit u
+  skips-to-limit limit d small due l e =
+      rw (skip-advance limit u whole (omega arith), ← due, min-eq-right l) e
+
+-- the ticks fit into the code's words, and so does a remainder by one more than r
+pub ticks-fit : (n v p : ℕ) → v < n → n < 2 ^ 64 → 1 + (n - (v + 1)) / p < 2 ^ 64
+ticks-fit n v p l small = omega (arith, div-le-self (n - (v + 1)) p)
+
+pub rest-within : (x r : ℕ) → x % (r + 1) ≤ r
+rest-within x r = let l : x % (r + 1) < r + 1 = mod-lt x (omega arith) in omega arith
+
+-- the j-th end of a countdown, where it is a 64-bit number and where it is not
+module _ (f p j : ℕ) (small : f < 2 ^ 64) (pos : 0 < p) where
+  ends-left : j - 1 ≤ (2 ^ 64 - 1 - f) / p → (j - 1) * p ≤ 2 ^ 64 - 1 - f
+  ends-left l = le-div-iff-mul-le pos .0 l
+
+  pub periods-fit : j - 1 ≤ (2 ^ 64 - 1 - f) / p → (j - 1) * p < 2 ^ 64
+  periods-fit l = omega (arith, ends-left l)
+
+  pub end-fits : j - 1 ≤ (2 ^ 64 - 1 - f) / p → f + (j - 1) * p < 2 ^ 64
+  end-fits l = omega (arith, ends-left l)
+
+  pub end-within : j - 1 ≤ (2 ^ 64 - 1 - f) / p → f + (j - 1) * p ≡ endsAt f p j
+  unfolding endsAt
+  end-within l = omega (arith, ends-left l)
+
+  pub end-beyond : (2 ^ 64 - 1 - f) / p < j - 1 → 2 ^ 64 - 1 ≡ endsAt f p j
+  unfolding endsAt
+  end-beyond l = let far : 2 ^ 64 - 1 - f < (j - 1) * p = div-lt-iff-lt-mul pos .0 l in omega arith
+
+-- of a countdown whose numbers a call answered
+pub end-of : (r f g p q j : ℕ) → f ≡ g → p ≡ q → r ≡ endsAt f p j → r ≡ endsAt g q j
+end-of r f g p q j e h i = rw (← e, ← h) i
+
+-- the first pulse of all, from each timer's
+pub min-of : (r a b x y : ℕ) → a ≡ x → b ≡ y → r ≡ min a b → r ≡ min x y
+min-of r a b x y e f g = rw (← e, ← f) g
+
+pub first-after : (ts : List Timer) (m : ℕ) → length ts ≡ 4 → m ≡ firstTick ts → 0 < m
+first-after ts m whole e = rw e (first-later ts whole)
+
+pub cycle-of :
+    (u : Gptimer) (r s m : ℕ) → s ≡ restart (u .sreload) → m ≡ firstTick (u .timers) →
+    r ≡ endsAt (u .scaler + 1) (s + 1) m → r ≡ tickCycle u (firstTick (u .timers))
+cycle-of u r s m es em e = rw (← es, ← em, ← add-one (u .scaler), ← add-one s) e
+
+-- one step up the chain
+pub step-chained :
+    (ts : List Timer) (at j d x : ℕ) → 0 < at → d ≡ due j (place ts (at - 1)) → place ts (at - 1) .ch ≡ true →
+    dueTick ts at j ≡ x → dueTick ts (at - 1) d ≡ x
+unfolding dueTick
+step-chained ts zero j d x more e ch f = absurd (omega arith)
+step-chained ts (suc n) j d x more e ch f =
+    let last : suc n - 1 ≡ n = omega arith in
+    rw last (sym (rw (e, last) (rw (← last, ch) refl)) ∙ f)
+
+pub step-free :
+    (ts : List Timer) (at j d x : ℕ) → 0 < at → d ≡ due j (place ts (at - 1)) → place ts (at - 1) .ch ≡ false →
+    dueTick ts at j ≡ x → d ≡ x
+unfolding dueTick
+step-free ts zero j d x more e ch f = absurd (omega arith)
+step-free ts (suc n) j d x more e ch f =
+    let last : suc n - 1 ≡ n = omega arith in
+    sym (rw (e, last) (rw (← last, ch) refl)) ∙ f
+
+pub step-none : (ts : List Timer) (at j x : ℕ) → at ≤ 0 → dueTick ts at j ≡ x → j ≡ x
+unfolding dueTick
+step-none ts zero j x none f = f
+step-none ts (suc n) j x none f = absurd (omega arith)
+
+pub step-later : (j d : ℕ) (t : Timer) → d ≡ due j t → 0 < j → 0 < d
+step-later j d t e l = rw e (due-later j t l)

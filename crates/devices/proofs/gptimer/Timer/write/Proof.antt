@@ -1,0 +1,11 @@
+-- Each return follows from the tests that led to it. Assumes nothing.
+use borrow.Author.Needs.{needs}
+use Rattle.devices.proofs.Cases.{cases}
+use Rattle.devices.proofs.gptimer.Timer.write.Statement.{statement}
+use Rattle.devices.proofs.gptimer.Timer.write.Tie as tie
+
+pub write-spec : {M : Type 1} → statement M
+write-spec =
+    tie.close
+    (tie.spec (λ c. search cases) (λ c. search cases) (λ c κs. search needs) (λ c. search cases)
+    (λ c. search cases))

@@ -1,0 +1,256 @@
+-- The timer unit (GPTIMER): paper 01, section "Timer unit", and what "The slow run" says of advances and skips. One
+-- definition a rule, under the sentence that it states, in the papers' order. Every field of the code's structs counts, so
+-- the definitions are on those structs; a refusal cannot occur, since no state of theirs is ill formed.
+pub mod Direct
+pub mod Laws
+use Prim.Native.Nat.{ℕ, zero, suc, _+_, _-_, _^_, _/_, _%_}
+use mathlib.Core.Bool.{Bool, false, true, cond, not, _&&_, _||_}
+use mathlib.Core.List.{List, [], _∷_, map}
+use lib.ListN.{getD, set}
+use lib.Dec.{eqb, ltb, leb}
+use Rattle.devices.specs.Word.{bit}
+use Rattle.devices.specs.declared.gptimer.Timer.{Timer}
+use Rattle.devices.specs.declared.gptimer.Gptimer.{Gptimer}
+use Rattle.devices.specs.declared.gptimer.Elapsed.{Elapsed}
+
+-- A unit, and a timer, with one field changed.
+abbrev pub withScaler : ℕ → Gptimer → Gptimer
+withScaler value u = record { scaler = value; sreload = u .sreload; df = u .df; timers = u .timers }
+
+abbrev pub withSreload : ℕ → Gptimer → Gptimer
+withSreload value u = record { scaler = u .scaler; sreload = value; df = u .df; timers = u .timers }
+
+abbrev pub withDf : Bool → Gptimer → Gptimer
+withDf flag u = record { scaler = u .scaler; sreload = u .sreload; df = flag; timers = u .timers }
+
+abbrev pub withTimers : List Timer → Gptimer → Gptimer
+withTimers ts u = record { scaler = u .scaler; sreload = u .sreload; df = u .df; timers = ts }
+
+abbrev pub withCounter : ℕ → Timer → Timer
+withCounter value t =
+    record { counter = value; reload = t .reload; en = t .en; rs = t .rs; ie = t .ie; ip = t .ip; ch = t .ch }
+
+abbrev pub withReload : ℕ → Timer → Timer
+withReload value t =
+    record { counter = t .counter; reload = value; en = t .en; rs = t .rs; ie = t .ie; ip = t .ip; ch = t .ch }
+
+abbrev pub withEn : Bool → Timer → Timer
+withEn flag t =
+    record { counter = t .counter; reload = t .reload; en = flag; rs = t .rs; ie = t .ie; ip = t .ip; ch = t .ch }
+
+abbrev pub withIp : Bool → Timer → Timer
+withIp flag t =
+    record { counter = t .counter; reload = t .reload; en = t .en; rs = t .rs; ie = t .ie; ip = flag; ch = t .ch }
+
+-- "0x00 prescaler value, 0x04 prescaler reload: a write stores the low 16 bits."
+abbrev pub SCALER : ℕ
+SCALER = 0x00
+
+abbrev pub SRELOAD : ℕ
+SRELOAD = 0x04
+
+-- "0x08 CONFIG: 0x144, plus 0x200 if DF is set; only DF (bit 9) is stored."
+abbrev pub CONFIG : ℕ
+CONFIG = 0x08
+
+abbrev pub DF : ℕ
+DF = 9
+
+abbrev pub readConfig : Gptimer → ℕ
+readConfig u = 0x144 + cond (u .df) 0x200 0
+
+-- "Timer n (1 to 4) at 0x10·n: counter, +4 reload, +8 control. Counter and reload store all 32 bits."
+abbrev pub isTimer : ℕ → Bool
+isTimer n = leb 1 n && leb n 4
+
+abbrev pub STRIDE : ℕ
+STRIDE = 0x10
+
+abbrev pub COUNTER : ℕ
+COUNTER = 0x0
+
+abbrev pub RELOAD : ℕ
+RELOAD = 0x4
+
+abbrev pub CONTROL : ℕ
+CONTROL = 0x8
+
+-- timer n; where there is none, one of zeros stands for it and is not looked at
+abbrev pub timer : ℕ → Gptimer → Timer
+timer n u =
+    getD (u .timers) (n - 1)
+    (record { counter = 0; reload = 0; en = false; rs = false; ie = false; ip = false; ch = false })
+
+-- "Control bits: EN 0, RS 1, LD 2, IE 3, IP 4, CH 5."
+abbrev pub EN : ℕ
+EN = 0
+
+abbrev pub RS : ℕ
+RS = 1
+
+abbrev pub LD : ℕ
+LD = 2
+
+abbrev pub IE : ℕ
+IE = 3
+
+abbrev pub IP : ℕ
+IP = 4
+
+abbrev pub CH : ℕ
+CH = 5
+
+-- "A write stores EN, RS, IE, CH. A 1 in bit 4 clears IP, a 0 keeps it. A 1 in bit 2 copies reload to counter."
+abbrev pub writeControl : ℕ → Timer → Timer
+writeControl value t =
+    record {
+      counter = cond (bit LD value) (t .reload) (t .counter);
+      reload = t .reload;
+      en = bit EN value;
+      rs = bit RS value;
+      ie = bit IE value;
+      ip = cond (bit IP value) false (t .ip);
+      ch = bit CH value;
+    }
+
+-- "LD reads 0, all bits above 5 read 0."
+abbrev pub readControl : Timer → ℕ
+readControl t =
+    cond (t .en) (2 ^ EN) 0 + cond (t .rs) (2 ^ RS) 0 + cond (t .ie) (2 ^ IE) 0 + cond (t .ip) (2 ^ IP) 0 +
+    cond (t .ch) (2 ^ CH) 0
+
+-- "An aligned word offset without a register below reads 0 and ignores writes"; a device's own call "answers an offset
+-- that is no register's, odd ones included, as a word offset without a register is answered."
+abbrev pub readTimer : ℕ → Timer → ℕ
+readTimer offset t =
+    cond (eqb offset COUNTER) (t .counter)
+    (cond (eqb offset RELOAD) (t .reload)
+    (cond (eqb offset CONTROL) (readControl t)
+    0))
+
+abbrev pub writeTimer : ℕ → ℕ → Timer → Timer
+writeTimer offset value t =
+    cond (eqb offset COUNTER) (withCounter value t)
+    (cond (eqb offset RELOAD) (withReload value t)
+    (cond (eqb offset CONTROL) (writeControl value t)
+    t))
+
+unfoldable pub read : ℕ → Gptimer → ℕ
+read offset u =
+    cond (eqb offset SCALER) (u .scaler)
+    (cond (eqb offset SRELOAD) (u .sreload)
+    (cond (eqb offset CONFIG) (readConfig u)
+    (cond (isTimer (offset / STRIDE)) (readTimer (offset % STRIDE) (timer (offset / STRIDE) u))
+    0)))
+
+unfoldable pub write : ℕ → ℕ → Gptimer → Gptimer
+write offset value u =
+    cond (eqb offset SCALER) (withScaler (value % 2 ^ 16) u)
+    (cond (eqb offset SRELOAD) (withSreload (value % 2 ^ 16) u)
+    (cond (eqb offset CONFIG) (withDf (bit DF value) u)
+    (cond (isTimer (offset / STRIDE))
+    (withTimers
+    (set (u .timers) (offset / STRIDE - 1) (writeTimer (offset % STRIDE) value (timer (offset / STRIDE) u))) u)
+    u)))
+
+-- "Counting: the counter falls by 1; a counter at 0 goes to 0xFFFFFFFF (house)."
+unfoldable pub fall : ℕ → ℕ
+fall counter = cond (eqb counter 0) 0xFFFFFFFF (counter - 1)
+
+-- "If the new number is 0 it is an underflow:"
+unfoldable pub underflows : Timer → Bool
+underflows t = eqb (fall (t .counter)) 0
+
+-- "IP is set; with RS the counter takes the reload, without it EN is cleared;"
+abbrev pub underflow : Timer → Timer
+underflow t = withIp true (cond (t .rs) (withCounter (t .reload) t) (withEn false t))
+
+unfoldable pub count : Timer → Timer
+count t =
+    cond (underflows t) (underflow (withCounter (fall (t .counter)) t)) (withCounter (fall (t .counter)) t)
+
+-- "An enabled timer counts if CH is 0, or if timer n-1 underflowed in this same tick."
+abbrev pub counts : Bool → Timer → Bool
+counts before t = t .en && (not (t .ch) || before)
+
+abbrev pub underflowsNow : Bool → Timer → Bool
+underflowsNow before t = counts before t && underflows t
+
+-- "One tick serves timers 1 to 4 in order."
+abbrev pub serve : Bool → List Timer → List Timer
+serve before [] = []
+serve before (t ∷ ts) = cond (counts before t) (count t) t ∷ serve (underflowsNow before t) ts
+
+-- "with IE there is one pulse, whether or not IP was set already."
+abbrev pub servePulses : Bool → List Timer → List ℕ
+servePulses before [] = []
+servePulses before (t ∷ ts) =
+    cond (underflowsNow before t && t .ie) 1 0 ∷ servePulses (underflowsNow before t) ts
+
+-- "Timer 1 ignores CH (house)": it is served as if a timer before it had underflowed.
+abbrev pub tick : List Timer → List Timer
+tick ts = serve true ts
+
+abbrev pub tickPulses : List Timer → List ℕ
+tickPulses ts = servePulses true ts
+
+abbrev pub noPulses : List Timer → List ℕ
+noPulses ts = map (λ (t : Timer). 0) ts
+
+-- "One cycle: if the prescaler value is 0 there is a tick, and the value becomes the reload, or 0xFFFF if the reload is
+-- 0. Otherwise it falls by 1."
+abbrev pub restart : ℕ → ℕ
+restart sreload = cond (eqb sreload 0) 0xFFFF sreload
+
+unfoldable pub cycle : Gptimer → Gptimer
+cycle u =
+    cond (eqb (u .scaler) 0)
+    (withScaler (restart (u .sreload)) (withTimers (tick (u .timers)) u))
+    (withScaler (u .scaler - 1) u)
+
+unfoldable pub pulses : Gptimer → List ℕ
+pulses u = cond (eqb (u .scaler) 0) (tickPulses (u .timers)) (noPulses (u .timers))
+
+-- "Reset: prescaler both 0xFFFF; DF 0; timers 1 to 3 all 0; timer 4 control 0x09, counter and reload 0xFFFF."
+abbrev pub resetTimer : Timer
+resetTimer = record { counter = 0; reload = 0; en = false; rs = false; ie = false; ip = false; ch = false }
+
+abbrev pub resetTimer4 : Timer
+resetTimer4 =
+    record { counter = 0xFFFF; reload = 0xFFFF; en = true; rs = false; ie = true; ip = false; ch = false }
+
+abbrev pub resetState : Gptimer
+resetState =
+    record {
+      scaler = 0xFFFF;
+      sreload = 0xFFFF;
+      df = false;
+      timers = resetTimer ∷ resetTimer ∷ resetTimer ∷ resetTimer4 ∷ [];
+    }
+
+-- "For both, the cycles passed are those done, and each timer's pulse count is how many of them had its pulse."
+abbrev pub add : List ℕ → List ℕ → List ℕ
+add [] ys = ys
+add (x ∷ xs) [] = x ∷ xs
+add (x ∷ xs) (y ∷ ys) = (x + y) ∷ add xs ys
+
+abbrev pub noCycle : Gptimer → Elapsed
+noCycle u = record { cycles = 0; pulses = noPulses (u .timers); unit = u }
+
+abbrev pub cycleAnd : Gptimer → Elapsed → Elapsed
+cycleAnd u rest =
+    record { cycles = suc (rest .cycles); pulses = add (pulses u) (rest .pulses); unit = rest .unit }
+
+-- "An advance does one cycle as often as its span says."
+unfoldable pub advance : ℕ → Gptimer → Elapsed
+advance zero u = noCycle u
+advance (suc n) u = cycleAnd u (advance n (cycle u))
+
+-- "A skip does one cycle after another while none had a pulse of any timer and the limit isn't reached."
+abbrev pub any : List ℕ → Bool
+any [] = false
+any (x ∷ xs) = ltb 0 x || any xs
+
+unfoldable pub skip : ℕ → Gptimer → Elapsed
+skip zero u = noCycle u
+skip (suc n) u = cycleAnd u (cond (any (pulses u)) (noCycle (cycle u)) (skip n (cycle u)))

@@ -1,0 +1,150 @@
+-- A countdown in one count more. Assumes nothing.
+use Prim.Native.Nat.{ℕ, zero, suc, _+_, _-_, _*_, _/_, _%_, _<_, _≤_, min}
+use mathlib.Core.Path.{_≡_, refl, ap, _∙_}
+use mathlib.Core.Bool.{Bool, true, false, cond, _||_}
+use native.Mathlib.Nat.{div-eq-of-lt, div-eq-sub-div, mod-eq-of-lt, mod-eq-sub-mod, le-div-iff-mul-le, div-le-self, suc-sub-suc, sub-zero, le-trans}
+use native.Mathlib.Numerals.{add-one, sub-one}
+use native.Mathlib.Decide.{decLt, ℕ-discrete}
+use native.Mathlib.Omega.{arith}
+use lib.Dec.{leb, ltb, eqb, leb·suc-suc}
+use borrow.Author.Tests.{lt-ltb, le-ltb, le-leb, lt-leb, eq-eqb, ne-eqb}
+use Rattle.devices.specs.Gptimer.Direct.{ends, stands, endsAt, once, onceAt, never}
+
+-- before its first count
+pub ends-none : (d p : ℕ) → 0 < d → ends d p 0 ≡ 0
+unfolding ends
+ends-none d p pos = rw (lt-ltb 0 d pos) refl
+
+pub stands-none : {A : Type 0} (d p : ℕ) (f g : ℕ → A) → 0 < d → stands d p f g 0 ≡ f 0
+unfolding stands
+stands-none d p f g pos = rw (lt-ltb 0 d pos) refl
+
+-- a count that does not end it
+pub ends-fall : (d p k : ℕ) → ends (suc d) p (suc k) ≡ ends d p k
+unfolding ends
+ends-fall d p k = rw (leb·suc-suc (suc k) d, suc-sub-suc k d) refl
+
+pub stands-fall :
+    {A : Type 0} (d p : ℕ) (f f' g : ℕ → A) (k : ℕ) → f (suc k) ≡ f' k →
+    stands (suc d) p f g (suc k) ≡ stands d p f' g k
+unfolding stands
+stands-fall d p f f' g k e = rw (leb·suc-suc (suc k) d, suc-sub-suc k d, e) refl
+
+-- the count that ends it
+module _ (p k : ℕ) (pos : 0 < p) where
+  pub ends-again : ends 1 p (suc k) ≡ suc (ends p p k)
+  unfolding ends
+  ends-again =
+      rw (le-ltb (suc k) 1 (omega arith), suc-sub-suc k 0, sub-zero k)
+      (elim (decLt k p) [
+        | yes l ↦ rw (lt-ltb k p l, div-eq-of-lt l) refl
+        | no l ↦ rw (le-ltb k p (omega arith), div-eq-sub-div {n = k} pos (omega arith), add-one) refl
+      ])
+
+  pub stands-again : {A : Type 0} (f g : ℕ → A) → stands 1 p f g (suc k) ≡ stands p p g g k
+  unfolding stands
+  stands-again f g =
+      rw (le-ltb (suc k) 1 (omega arith), suc-sub-suc k 0, sub-zero k)
+      (elim (decLt k p) [
+        | yes l ↦ rw (lt-ltb k p l, mod-eq-of-lt l) refl
+        | no l ↦ rw (le-ltb k p (omega arith)) (ap g (mod-eq-sub-mod (omega arith)))
+      ])
+
+pub stands-past : {A : Type 0} (d p : ℕ) (f g : ℕ → A) (k : ℕ) → d ≤ k → stands d p f g k ≡ g ((k - d) % p)
+unfolding stands
+stands-past d p f g k l = rw (le-ltb k d l) refl
+
+-- Something happens m times in k steps, the j-th time at step `time j`; at `never` stands what is not seen in fewer steps.
+pub record Due (k m : ℕ) (time : ℕ → ℕ) : Type 0 where
+  pub few : m ≤ k
+  pub later : (j : ℕ) → 0 < j → 0 < time j
+  pub by : (j : ℕ) → 0 < j → leb j m ≡ leb (time j) k
+
+-- what happens at steps that themselves are due
+pub due-through :
+    {k m n : ℕ} (outer inner : ℕ → ℕ) → Due k m outer → Due m n inner → Due k n (λ j. outer (inner j))
+due-through outer inner o i =
+    record {
+      few = le-trans (i .few) (o .few);
+      later = λ j l. o .later (inner j) (i .later j l);
+      by = λ j l. i .by j l ∙ o .by (inner j) (i .later j l);
+    }
+
+-- two tests that pass together
+leb-both : (a b c d : ℕ) → (a ≤ b → c ≤ d) → (c ≤ d → a ≤ b) → leb a b ≡ leb c d
+leb-both a b c d f g =
+    elim (decLt b a) [
+      | yes l ↦
+          elim (decLt d c) [
+            | yes m ↦ rw (lt-leb a b l, lt-leb c d m) refl
+            | no m ↦ let no-more : a ≤ b = g (omega arith) in absurd (omega arith)
+          ]
+      | no l ↦ rw (le-leb a b (omega arith), le-leb c d (f (omega arith))) refl
+    ]
+
+pub earlier : (a b k : ℕ) → (leb a k || leb b k) ≡ leb (min a b) k
+earlier a b k =
+    elim (decLt k a) [
+      | yes l ↦ rw (lt-leb a k l) (leb-both b k (min a b) k (λ q. omega arith) (λ q. omega arith))
+      | no l ↦ rw (le-leb a k (omega arith), le-leb (min a b) k (omega arith)) refl
+    ]
+
+-- both countdowns, and what does not happen
+module _ (k d p : ℕ) (small : k < never) where
+  pub not-due : Due k 0 (λ j. never)
+  not-due =
+      record {
+        few = omega arith;
+        later = λ j l. omega arith;
+        by = λ j l. rw (lt-leb j 0 l, lt-leb never k small) refl;
+      }
+
+  module _ (pos : 0 < d) where
+    pub ends-due : 0 < p → Due k (ends d p k) (endsAt d p)
+    unfolding ends endsAt
+    ends-due again =
+        elim (decLt k d) [
+          | yes l ↦
+              rw (lt-ltb k d l)
+              (record {
+                few = omega arith;
+                later = λ j q. omega arith;
+                by = λ j q. leb-both j 0 (min (d + (j - 1) * p) never) k (λ r. omega arith) (λ r. omega arith);
+              })
+          | no l ↦
+              rw (le-ltb k d (omega arith))
+              (record {
+                few = omega (arith, div-le-self (k - d) p);
+                later = λ j q. omega arith;
+                by =
+                    λ j q.
+                    leb-both j (suc ((k - d) / p)) (min (d + (j - 1) * p) never) k
+                    (λ r. let m : (j - 1) * p ≤ k - d = le-div-iff-mul-le again .0 (omega arith) in omega arith)
+                    (λ r. let m : j - 1 ≤ (k - d) / p = le-div-iff-mul-le again .1 (omega arith) in omega arith);
+              })
+        ]
+
+    -- its first end is due as that of the other, and it has no second
+    pub once-due : Due k (once d k) (onceAt d)
+    unfolding once onceAt
+    once-due =
+        elim (decLt k d) [
+          | yes l ↦
+              rw (lt-ltb k d l)
+              (record { few = omega arith; later = later; by = by 0 (omega arith) (λ r. omega arith) (λ r. omega arith) })
+          | no l ↦
+              rw (le-ltb k d (omega arith))
+              (record { few = omega arith; later = later; by = by 1 (omega arith) (λ r. omega arith) (λ r. omega arith) })
+        ]
+      where
+        later : (j : ℕ) → 0 < j → 0 < cond (eqb j 1) d never
+        later j q = elim (ℕ-discrete j 1) [ yes e ↦ rw (eq-eqb j 1 e) pos | no e ↦ rw (ne-eqb j 1 e) (omega arith) ]
+
+        by :
+            (m : ℕ) → m ≤ 1 → (1 ≤ m → d ≤ k) → (d ≤ k → 1 ≤ m) → (j : ℕ) → 0 < j →
+            leb j m ≡ leb (cond (eqb j 1) d never) k
+        by m most f g j q =
+            elim (ℕ-discrete j 1) [
+              | yes e ↦ rw (eq-eqb j 1 e, e) (leb-both 1 m d k f g)
+              | no e ↦ rw (ne-eqb j 1 e) (leb-both j m never k (λ r. omega arith) (λ r. omega arith))
+            ]

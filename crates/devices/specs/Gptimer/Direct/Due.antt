@@ -1,0 +1,148 @@
+-- When a timer underflows: it has done so j times exactly from the time on at which it does so for the j-th time. These
+-- laws hold of times below `never`. Assumes nothing.
+use Prim.Native.Nat.{ℕ, zero, suc, _+_, _-_, _<_, _≤_, min}
+use mathlib.Core.Path.{_≡_, refl, ap, sym, _∙_}
+use mathlib.Core.Bool.{Bool, true, false, cond, _||_, or-false, or-assoc}
+use mathlib.Core.List.{List, [], _∷_}
+use native.Mathlib.Decide.{decLt, ℕ-discrete}
+use native.Mathlib.Omega.{arith}
+use native.Mathlib.Numerals.{add-one}
+use native.Mathlib.Nat.{lt-of-le-of-lt, lt-of-lt-of-le}
+use lib.Dec.{leb, ltb, eqb}
+use lib.ListN.{length}
+use borrow.Author.Tests.{le-leb, lt-leb, leb-false}
+use Rattle.devices.specs.Gptimer.{any, advance, skip}
+use Rattle.devices.specs.Gptimer.Direct.{never, ends, endsAt, once, onceAt, countsLeft, underflowsIn, countsIn, pulsesOf, servedPulses}
+use Rattle.devices.specs.Gptimer.Direct.{due, place, dueTick, pulseTick, firstTick, tickCycle, ticksIn, period, elapsed}
+use Rattle.devices.specs.Gptimer.Direct.Countdown.{Due, due-through, not-due, ends-due, once-due, earlier}
+use Rattle.devices.specs.Gptimer.Direct.Time.{left-pos, servedPulses-none, advance-elapsed}
+use Rattle.devices.specs.Gptimer.Laws.{any-none, advance-cycles, skip-least, least-unique}
+use Rattle.devices.specs.declared.gptimer.Timer.{Timer}
+use Rattle.devices.specs.declared.gptimer.Gptimer.{Gptimer}
+
+-- A timer's underflows in its own counts.
+counts-due : (k : ℕ) (t : Timer) → k < never → Due k (underflowsIn k t) (λ j. due j t)
+unfolding underflowsIn due
+counts-due k t small =
+    by-flags (countsLeft (t .counter)) (countsLeft (t .reload)) (left-pos (t .counter)) (left-pos (t .reload))
+    (t .en) (t .rs)
+  where
+    by-flags :
+        (d p : ℕ) → 0 < d → 0 < p → (en rs : Bool) →
+        Due k (cond en (cond rs (ends d p k) (once d k)) 0) (λ j. cond en (cond rs (endsAt d p j) (onceAt d j)) never)
+    by-flags d p first again false rs = not-due k d p small
+    by-flags d p first again true true = ends-due k d p small first again
+    by-flags d p first again true false = once-due k d p small first
+
+-- The underflows of timer n in some ticks; before timer 1 stands the tick itself.
+underflowsAt : ℕ → List Timer → ℕ → ℕ
+underflowsAt ticks ts zero = ticks
+underflowsAt ticks ts (suc n) =
+    underflowsIn (countsIn ticks (underflowsAt ticks ts n) (place ts n)) (place ts n)
+
+ticks-due : (ticks n : ℕ) (ts : List Timer) → ticks < never → Due ticks (underflowsAt ticks ts n) (dueTick ts n)
+unfolding underflowsAt dueTick
+ticks-due ticks zero ts small =
+    record { few = omega arith; later = λ j l. l; by = λ j l. refl }
+ticks-due ticks (suc n) ts small =
+    by-chain (underflowsAt ticks ts n) (dueTick ts n) (ticks-due ticks n ts small) (place ts n) (place ts n .ch)
+  where
+    by-chain :
+        (m : ℕ) (before : ℕ → ℕ) → Due ticks m before → (t : Timer) (ch : Bool) →
+        Due ticks (underflowsIn (cond ch m ticks) t) (λ j. cond ch (before (due j t)) (due j t))
+    by-chain m before b t true =
+        due-through before (λ j. due j t) b (counts-due m t (lt-of-le-of-lt (b .few) small))
+    by-chain m before b t false = counts-due ticks t small
+
+-- The first pulse of the timer at place n, and of all four.
+pulse-due :
+    (ticks n : ℕ) (ts : List Timer) → ticks < never →
+    ltb 0 (pulsesOf (place ts n) (underflowsAt ticks ts (suc n))) ≡ leb (pulseTick ts n) ticks
+pulse-due ticks n ts small =
+    rw add-one
+    (by-flag (underflowsAt ticks ts (suc n)) (dueTick ts (suc n) 1) (place ts n .ie)
+    (ticks-due ticks (suc n) ts small .by 1 (omega arith)))
+  where
+    by-flag :
+        (m time : ℕ) (ie : Bool) → leb 1 m ≡ leb time ticks →
+        ltb 0 (cond ie m 0) ≡ leb (cond ie time never) ticks
+    by-flag m time true e = e
+    by-flag m time false e = rw (lt-leb never ticks small) refl
+
+-- a list of four
+pub four :
+    (P : List Timer → Type 0) → ((a b c d : Timer) → P (a ∷ b ∷ c ∷ d ∷ [])) → (ts : List Timer) → length ts ≡ 4 →
+    P ts
+four P f [] e = absurd (omega arith)
+four P f (a ∷ []) e = absurd (omega arith)
+four P f (a ∷ b ∷ []) e = absurd (omega arith)
+four P f (a ∷ b ∷ c ∷ []) e = absurd (omega arith)
+four P f (a ∷ b ∷ c ∷ d ∷ []) e = f a b c d
+four P f (a ∷ b ∷ c ∷ d ∷ x ∷ ts) e = absurd (omega arith)
+
+first-due :
+    (ticks : ℕ) (ts : List Timer) → length ts ≡ 4 → ticks < never →
+    any (servedPulses ticks ticks ts) ≡ leb (firstTick ts) ticks
+unfolding underflowsAt
+first-due ticks ts e small =
+    four (λ ts. any (servedPulses ticks ticks ts) ≡ leb (firstTick ts) ticks)
+    (λ a b c d.
+    let ts : List Timer = a ∷ b ∷ c ∷ d ∷ [] in
+    rw (
+      pulse-due ticks 0 ts small,
+      pulse-due ticks 1 ts small,
+      pulse-due ticks 2 ts small,
+      pulse-due ticks 3 ts small,
+      or-false,
+      ← or-assoc,
+      earlier,
+      earlier,
+      earlier,
+    )
+    refl)
+    ts e
+
+pub first-later : (ts : List Timer) → length ts ≡ 4 → 0 < firstTick ts
+first-later ts four =
+    leb-false (firstTick ts) 0
+    (sym (first-due 0 ts four (omega arith)) ∙ ap any (servedPulses-none ts) ∙ any-none ts)
+
+-- Some timer has pulsed exactly from the cycle of the first pulse's tick on.
+cycles-due :
+    (n : ℕ) (u : Gptimer) → length (u .timers) ≡ 4 → n < never →
+    any (advance n u .pulses) ≡ leb (tickCycle u (firstTick (u .timers))) n
+unfolding elapsed
+cycles-due n u four small =
+    let ticks : Due n (ticksIn n u) (tickCycle u) =
+    ends-due n (suc (u .scaler)) (period u) small (omega arith) (omega arith) in
+    rw (advance-elapsed n u)
+    (first-due (ticksIn n u) (u .timers) four (lt-of-le-of-lt (ticks .few) small) ∙
+    ticks .by (firstTick (u .timers)) (first-later (u .timers) four))
+
+-- So a skip is an advance to that cycle, or to the limit.
+pub skip-advance :
+    (limit : ℕ) (u : Gptimer) → length (u .timers) ≡ 4 → limit ≤ never →
+    skip limit u ≡ advance (min (tickCycle u (firstTick (u .timers))) limit) u
+skip-advance limit u four small =
+    by-least (tickCycle u (firstTick (u .timers))) (λ k l. cycles-due k u four (lt-of-lt-of-le l small))
+  where
+    by-least :
+        (d : ℕ) → ((k : ℕ) → k < limit → any (advance k u .pulses) ≡ leb d k) →
+        skip limit u ≡ advance (min d limit) u
+    by-least d by =
+        let n : ℕ = min d limit in
+        let c : advance n u .cycles ≡ n = advance-cycles n u in
+        least-unique limit u _ _ (skip-least limit u)
+        (record {
+          advances = ap (λ (k : ℕ). advance k u) (sym c);
+          within = omega arith;
+          quiet = λ k l. by k (omega arith) ∙ lt-leb d k (omega arith);
+          pulse = λ l. rw c (by n (omega arith) ∙ le-leb d n (omega arith));
+        })
+
+-- A time that is due is a step from 1 on.
+pub due-later : (j : ℕ) (t : Timer) → 0 < j → 0 < due j t
+due-later j t l = counts-due 0 t (omega arith) .later j l
+
+pub due-tick-later : (j n : ℕ) (ts : List Timer) → 0 < j → 0 < dueTick ts n j
+due-tick-later j n ts l = ticks-due 0 n ts (omega arith) .later j l

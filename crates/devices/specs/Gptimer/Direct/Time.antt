@@ -1,0 +1,232 @@
+-- The direct form is what single counts, ticks and cycles do, one after another. Assumes nothing.
+use Prim.Native.Nat.{ℕ, zero, suc, _+_, _-_, _<_, _≤_, _^_}
+use mathlib.Core.Path.{_≡_, refl, ap, sym}
+use mathlib.Core.Bool.{Bool, true, false, cond, not, _&&_, _||_, true≢false}
+use mathlib.Core.List.{List, [], _∷_, map}
+use native.Mathlib.Decide.{decLt, ℕ-discrete}
+use native.Mathlib.Omega.{arith}
+use native.Mathlib.Nat.{zero-add, suc-sub-suc, sub-zero}
+use native.Mathlib.Numerals.{one-add}
+use lib.Dec.{leb, ltb, eqb, leb·suc-suc}
+use borrow.Author.Tests.{lt-ltb, le-ltb, eq-eqb, ne-eqb, eqb-true}
+use Rattle.devices.specs.Gptimer.{fall, underflows, underflow, count, counts, underflowsNow, serve, servePulses}
+use Rattle.devices.specs.Gptimer.{withCounter, withEn, withIp, noPulses, add, cycle, pulses, cycleAnd, advance, restart}
+use Rattle.devices.specs.Gptimer.Direct.{ends, once, stands, countsLeft, falls, fallen, restarted, stopped}
+use Rattle.devices.specs.Gptimer.Direct.{counted, underflowsIn, countsIn, served, servedPulses, elapsed}
+use Rattle.devices.specs.Gptimer.Direct.Countdown.{ends-none, ends-fall, ends-again, stands-none, stands-fall, stands-again, stands-past}
+use Rattle.devices.specs.declared.gptimer.Timer.{Timer}
+use Rattle.devices.specs.declared.gptimer.Gptimer.{Gptimer}
+use Rattle.devices.specs.declared.gptimer.Elapsed.{Elapsed}
+
+-- one more, where b says so
+abbrev more : Bool → ℕ → ℕ
+more b n = cond b (suc n) n
+
+-- What the definitions of a count say of the counts that are left: all that the laws below know of them.
+pub left-pos : (c : ℕ) → 0 < countsLeft c
+unfolding countsLeft
+left-pos c =
+    elim (ℕ-discrete c 0) [
+      | yes z ↦ rw (eq-eqb c 0 z) (omega arith)
+      | no z ↦ rw (ne-eqb c 0 z) (omega arith)
+    ]
+
+fall-suc : (c : ℕ) → fall (suc c) ≡ c
+unfolding fall
+fall-suc c = rw (ne-eqb (suc c) 0 (λ e. omega arith)) (omega arith)
+
+left-suc : (c : ℕ) → countsLeft (suc c) ≡ suc c
+unfolding countsLeft
+left-suc c = rw (ne-eqb (suc c) 0 (λ e. omega arith)) refl
+
+left-last : (c : ℕ) → eqb (fall c) 0 ≡ true → countsLeft c ≡ 1
+unfolding countsLeft fall
+left-last zero e = absurd (true≢false (sym e))
+left-last (suc c) e = let z : c ≡ 0 = eqb-true c 0 (rw (← fall-suc c) e) in rw z refl
+
+left-falls : (c : ℕ) → eqb (fall c) 0 ≡ false → countsLeft c ≡ suc (countsLeft (fall c))
+unfolding countsLeft fall
+left-falls zero e = refl
+left-falls (suc c) e = let z : eqb c 0 ≡ false = rw (← fall-suc c) e in rw (left-suc c, fall-suc c, z) refl
+
+-- One count of an enabled timer, and k more.
+abbrev enabled : ℕ → ℕ → Bool → Bool → Bool → Bool → Timer
+enabled c l rs ie ip ch = record { counter = c; reload = l; en = true; rs = rs; ie = ie; ip = ip; ch = ch }
+
+counted-suc :
+    (k c l : ℕ) (rs ie ip ch u : Bool) → eqb (fall c) 0 ≡ u →
+    counted (suc k) (enabled c l rs ie ip ch) ≡ counted k (count (enabled c l rs ie ip ch))
+unfolding counted count underflows falls
+counted-suc k c l true ie ip ch true e =
+    rw (left-last c e, e) (stands-again (countsLeft l) k (left-pos l) _ _)
+counted-suc k c l false ie ip ch true e =
+    rw (left-last c e, e, stands-past 1 1 (fallen (enabled c l false ie ip ch)) (stopped (enabled c l false ie ip ch)) (suc k) (omega arith), eqb-true (fall c) 0 e) refl
+counted-suc k c l true ie ip ch false e =
+    rw (e, left-falls c e) (stands-fall (countsLeft (fall c)) (countsLeft l) _ _ _ k refl)
+counted-suc k c l false ie ip ch false e =
+    rw (e, left-falls c e) (stands-fall (countsLeft (fall c)) 1 _ _ _ k refl)
+
+underflows-suc :
+    (k c l : ℕ) (rs ie ip ch u : Bool) → eqb (fall c) 0 ≡ u →
+    underflowsIn (suc k) (enabled c l rs ie ip ch) ≡
+    more u (underflowsIn k (count (enabled c l rs ie ip ch)))
+unfolding underflowsIn count underflows once
+underflows-suc k c l true ie ip ch true e = rw (left-last c e, e) (ends-again (countsLeft l) k (left-pos l))
+underflows-suc k c l false ie ip ch true e = rw (left-last c e, e, le-ltb (suc k) 1 (omega arith)) refl
+underflows-suc k c l true ie ip ch false e = rw (e, left-falls c e) (ends-fall (countsLeft (fall c)) (countsLeft l) k)
+underflows-suc k c l false ie ip ch false e = rw (e, left-falls c e, leb·suc-suc (suc k) (countsLeft (fall c))) refl
+
+-- a count leaves CH and IE as they are
+either : {A B : Type 0} (f : A → B) (b : Bool) (x y : A) (z : B) → f x ≡ z → f y ≡ z → f (cond b x y) ≡ z
+either f true x y z p q = p
+either f false x y z p q = q
+
+count-keeps :
+    {B : Type 0} (f : Timer → B) →
+    ((t : Timer) (c : ℕ) (en ip : Bool) → f (withIp ip (withEn en (withCounter c t))) ≡ f t) →
+    (t : Timer) → f (count t) ≡ f t
+unfolding count
+count-keeps f same t =
+    either f (underflows t) _ _ _ (either (λ (x : Timer). f (withIp true x)) (t .rs) _ _ _ (same t _ _ _) (same t _ _ _))
+    (same t _ _ _)
+
+-- A timer at one tick, and at T more: `m` is how often the timer before it underflows in those.
+module _ (ticks m : ℕ) where
+  abbrev now : Bool → Timer → Timer
+  now b t = cond (counts b t) (count t) t
+
+  -- what the direct form says of a timer after those ticks
+  record Tick (b : Bool) (t : Timer) : Type 0 where
+    timer : counted (countsIn (suc ticks) (more b m) t) t ≡ counted (countsIn ticks m (now b t)) (now b t)
+    underflow :
+        underflowsIn (countsIn (suc ticks) (more b m) t) t ≡
+        more (underflowsNow b t) (underflowsIn (countsIn ticks m (now b t)) (now b t))
+    enable : now b t .ie ≡ t .ie
+
+  counting :
+      (b : Bool) (k c l : ℕ) (rs ie ip ch : Bool) → (not ch || b) ≡ true →
+      cond ch (more b m) (suc ticks) ≡ suc k → cond ch m ticks ≡ k →
+      Tick b (enabled c l rs ie ip ch)
+  unfolding underflows
+  counting b k c l rs ie ip ch now-too these those =
+      let after : countsIn ticks m (count (enabled c l rs ie ip ch)) ≡ k = rw (count-keeps (λ (x : Timer). x .ch) (λ t c en ip. refl) (enabled c l rs ie ip ch)) those in
+      record {
+        timer = rw (now-too, these, after) (counted-suc k c l rs ie ip ch _ refl);
+        underflow = rw (now-too, these, after) (underflows-suc k c l rs ie ip ch _ refl);
+        enable = rw now-too (count-keeps (λ (x : Timer). x .ie) (λ t c en ip. refl) (enabled c l rs ie ip ch));
+      }
+
+  at-tick : (b : Bool) (t : Timer) → Tick b t
+  unfolding counted underflowsIn
+  at-tick b t = by-flags b (t .counter) (t .reload) (t .en) (t .rs) (t .ie) (t .ip) (t .ch)
+    where
+      by-flags :
+          (b : Bool) (c l : ℕ) (en rs ie ip ch : Bool) →
+          Tick b (record { counter = c; reload = l; en = en; rs = rs; ie = ie; ip = ip; ch = ch })
+      by-flags b c l false rs ie ip ch = record { timer = refl; underflow = refl; enable = refl }
+      by-flags false c l true rs ie ip true = record { timer = refl; underflow = refl; enable = refl }
+      by-flags true c l true rs ie ip true = counting true m c l rs ie ip true refl refl refl
+      by-flags b c l true rs ie ip false = counting b ticks c l rs ie ip false refl refl refl
+
+served-suc :
+    (ticks m : ℕ) (b : Bool) (ts : List Timer) →
+    served (suc ticks) (more b m) ts ≡ served ticks m (serve b ts)
+served-suc ticks m b [] = refl
+served-suc ticks m b (t ∷ ts) = rw (at-tick ticks m b t .timer, at-tick ticks m b t .underflow, served-suc ticks _ _ ts) refl
+
+pulses-more :
+    (u ie ie' : Bool) (n : ℕ) → ie' ≡ ie →
+    cond ie (more u n) 0 ≡ cond (u && ie) 1 0 + cond ie' n 0
+pulses-more true true ie' n e = rw e (sym (one-add n))
+pulses-more true false ie' n e = rw e refl
+pulses-more false ie ie' n e = rw (e, zero-add) refl
+
+servedPulses-suc :
+    (ticks m : ℕ) (b : Bool) (ts : List Timer) →
+    servedPulses (suc ticks) (more b m) ts ≡ add (servePulses b ts) (servedPulses ticks m (serve b ts))
+servedPulses-suc ticks m b [] = refl
+servedPulses-suc ticks m b (t ∷ ts) =
+    rw (
+      at-tick ticks m b t .underflow,
+      pulses-more (underflowsNow b t) (t .ie) _ _ (at-tick ticks m b t .enable),
+      servedPulses-suc ticks _ _ ts,
+    )
+    refl
+
+-- Nothing happens in no time.
+module _ (t : Timer) where
+  none : countsIn 0 0 t ≡ 0
+  none = either (λ (k : ℕ). k) (t .ch) 0 0 0 refl refl
+
+  counted-none : counted (countsIn 0 0 t) t ≡ t
+  unfolding counted falls
+  counted-none =
+      rw (
+        none,
+        stands-none _ (countsLeft (t .reload)) (fallen t) (restarted t) (left-pos (t .counter)),
+        stands-none _ 1 (fallen t) (stopped t) (left-pos (t .counter)),
+      )
+      (either (λ (x : Timer). x) (t .en) _ t t (either (λ (x : Timer). x) (t .rs) t t t refl refl) refl)
+
+  underflows-none : underflowsIn (countsIn 0 0 t) t ≡ 0
+  unfolding underflowsIn once
+  underflows-none =
+      rw (
+        none,
+        ends-none (countsLeft (t .counter)) (countsLeft (t .reload)) (left-pos (t .counter)),
+        lt-ltb 0 (countsLeft (t .counter)) (left-pos (t .counter)),
+      )
+      (either (λ (n : ℕ). n) (t .en) _ 0 0 (either (λ (n : ℕ). n) (t .rs) 0 0 0 refl refl) refl)
+
+pub served-none : (ts : List Timer) → served 0 0 ts ≡ ts
+served-none [] = refl
+served-none (t ∷ ts) = rw (counted-none t, underflows-none t, served-none ts) refl
+
+pub servedPulses-none : (ts : List Timer) → servedPulses 0 0 ts ≡ noPulses ts
+servedPulses-none [] = refl
+servedPulses-none (t ∷ ts) =
+    rw (underflows-none t, servedPulses-none ts, either (λ (n : ℕ). n) (t .ie) 0 0 0 refl refl) refl
+
+add-none : (ticks m : ℕ) (ts : List Timer) → add (noPulses ts) (servedPulses ticks m ts) ≡ servedPulses ticks m ts
+add-none ticks m [] = refl
+add-none ticks m (t ∷ ts) = rw (zero-add, add-none ticks _ ts) refl
+
+-- One cycle, and n more.
+elapsed-suc :
+    (n v r : ℕ) (df : Bool) (ts : List Timer) →
+    (let u : Gptimer = record { scaler = v; sreload = r; df = df; timers = ts } in
+    cycleAnd u (elapsed n (cycle u)) ≡ elapsed (suc n) u)
+unfolding elapsed cycle pulses
+elapsed-suc n zero r df ts =
+    let R : ℕ = restart r in
+    rw (
+      ends-again (suc R) n (omega arith),
+      stands-again (suc R) n (omega arith) (λ (k : ℕ). 0 - k) (λ (k : ℕ). R - k),
+      servedPulses-suc (ends (suc R) (suc R) n) (ends (suc R) (suc R) n) true ts,
+      served-suc (ends (suc R) (suc R) n) (ends (suc R) (suc R) n) true ts,
+    )
+    refl
+elapsed-suc n (suc v) r df ts =
+    rw (
+      ne-eqb (suc v) 0 (λ e. omega arith),
+      suc-sub-suc v 0,
+      sub-zero v,
+      ends-fall (suc v) (suc (restart r)) n,
+      stands-fall (suc v) (suc (restart r)) (λ (k : ℕ). suc v - k) (λ (k : ℕ). v - k) (λ (k : ℕ). restart r - k) n (suc-sub-suc v n),
+      add-none (ends (suc v) (suc (restart r)) n) (ends (suc v) (suc (restart r)) n) ts,
+    )
+    refl
+
+pub advance-elapsed : (n : ℕ) (u : Gptimer) → advance n u ≡ elapsed n u
+unfolding advance elapsed
+advance-elapsed zero u =
+    rw (
+      ends-none (suc (u .scaler)) (suc (restart (u .sreload))) (omega arith),
+      stands-none (suc (u .scaler)) (suc (restart (u .sreload))) (λ (k : ℕ). u .scaler - k) (λ (k : ℕ). restart (u .sreload) - k) (omega arith),
+      served-none (u .timers),
+      servedPulses-none (u .timers),
+      sub-zero (u .scaler),
+    )
+    refl
+advance-elapsed (suc n) u =
+    rw (advance-elapsed n (cycle u)) (elapsed-suc n (u .scaler) (u .sreload) (u .df) (u .timers))

@@ -1,0 +1,476 @@
+// The timer unit, GRLIB's GPTIMER: a prescaler and four timers, as a state by value that no value of is ill formed. Each
+// public call answers what `specs/Gptimer.antt` defines. Time is not walked: a span of cycles is worked out by divisions,
+// and a skip from the time of the next pulse.
+ghost use mathlib.Core.Path.{_≡_};
+ghost use mathlib.Core.Bool.{cond, false};
+ghost use Prim.Native.Nat.{suc, _<_, _≤_, _%_, min};
+ghost use Rattle.devices.specs.Word.{bit};
+ghost use Rattle.devices.specs.Gptimer as gpt;
+ghost use Rattle.devices.specs.Gptimer.Direct as direct;
+
+pub struct Timer {
+    pub counter: u32,
+    pub reload: u32,
+    // The control register: enable, restart, interrupt enable, interrupt pending, chain.
+    pub en: bool,
+    pub rs: bool,
+    pub ie: bool,
+    pub ip: bool,
+    pub ch: bool,
+}
+
+pub struct Gptimer {
+    // The prescaler's value and reload.
+    pub scaler: u16,
+    pub sreload: u16,
+    // CONFIG, disable timer freeze: stored, without effect.
+    pub df: bool,
+    // Timers 1 to 4.
+    pub timers: [Timer; 4],
+}
+
+// What a span of time answers.
+pub struct Elapsed {
+    // The cycles passed.
+    pub cycles: u64,
+    // The pulses of each timer in them, timer 1 first.
+    pub pulses: [u64; 4],
+    // The unit after them.
+    pub unit: Gptimer,
+}
+
+// What some ticks do to a timer.
+struct Served {
+    underflows: u64,
+    pulses: u64,
+    timer: Timer,
+}
+
+impl Timer {
+    // Offsets from the timer's own.
+    pub const COUNTER: u32 = 0x0;
+
+    pub const RELOAD: u32 = 0x4;
+
+    pub const CONTROL: u32 = 0x8;
+
+    // Control, enable.
+    pub const EN: u32 = 0x01;
+    // Control, restart: an underflow takes the reload.
+    pub const RS: u32 = 0x02;
+    // Control, load: a written 1 copies the reload to the counter.
+    pub const LD: u32 = 0x04;
+    // Control, interrupt enable.
+    pub const IE: u32 = 0x08;
+    // Control, interrupt pending: a written 1 clears it.
+    pub const IP: u32 = 0x10;
+    // Control, chain: the timer counts underflows of the one before it.
+    pub const CH: u32 = 0x20;
+
+    // Timers 1 to 3 at reset.
+    pub fn reset_state() -> Self
+        ensures { λ r. ⌜ r ≡ gpt.resetTimer ⌝ }
+    {
+        Timer {
+            counter: 0,
+            reload: 0,
+            en: false,
+            rs: false,
+            ie: false,
+            ip: false,
+            ch: false,
+        }
+    }
+
+    // Timer 4 at reset counts down once.
+    pub fn reset_state_4() -> Self
+        ensures { λ r. ⌜ r ≡ gpt.resetTimer4 ⌝ }
+    {
+        Timer {
+            counter: 0xFFFF,
+            reload: 0xFFFF,
+            en: true,
+            rs: false,
+            ie: true,
+            ip: false,
+            ch: false,
+        }
+    }
+
+    fn read(self, offset: u32) -> u32
+        ensures { λ r. ⌜ r ≡ gpt.readTimer offset self ⌝ }
+    {
+        if offset == Self::COUNTER {
+            return self.counter;
+        }
+        if offset == Self::RELOAD {
+            return self.reload;
+        }
+        if offset == Self::CONTROL {
+            return self.read_control();
+        }
+        0
+    }
+
+    fn write(mut self, offset: u32, value: u32) -> Self
+        ensures { λ r. ⌜ r ≡ gpt.writeTimer offset value self ⌝ }
+    {
+        if offset == Self::COUNTER {
+            self.counter = value;
+            return self;
+        }
+        if offset == Self::RELOAD {
+            self.reload = value;
+            return self;
+        }
+        if offset == Self::CONTROL {
+            return self.write_control(value);
+        }
+        self
+    }
+
+    fn read_control(self) -> u32
+        ensures { λ r. ⌜ r ≡ gpt.readControl self ⌝ }
+    {
+        flag(self.en, Self::EN)
+            + flag(self.rs, Self::RS)
+            + flag(self.ie, Self::IE)
+            + flag(self.ip, Self::IP)
+            + flag(self.ch, Self::CH)
+    }
+
+    fn write_control(mut self, value: u32) -> Self
+        ensures { λ r. ⌜ r ≡ gpt.writeControl value self ⌝ }
+    {
+        self.en = value / Self::EN % 2 == 1;
+        self.rs = value / Self::RS % 2 == 1;
+        self.ie = value / Self::IE % 2 == 1;
+        self.ch = value / Self::CH % 2 == 1;
+        self.clear(value).load(value)
+    }
+
+    fn clear(mut self, value: u32) -> Self
+        ensures { λ r. ⌜ r ≡ gpt.withIp (cond (bit gpt.IP value) false (self .ip)) self ⌝ }
+    {
+        if value / Self::IP % 2 == 1 {
+            self.ip = false;
+            return self;
+        }
+        self
+    }
+
+    fn load(mut self, value: u32) -> Self
+        ensures { λ r. ⌜ r ≡ gpt.withCounter (cond (bit gpt.LD value) (self .reload) (self .counter)) self ⌝ }
+    {
+        if value / Self::LD % 2 == 1 {
+            self.counter = self.reload;
+            return self;
+        }
+        self
+    }
+
+    // How many counts a counter is away from its underflow: a counter at 0 goes once round.
+    fn counts_left(counter: u32) -> u64
+        ensures is { λ r. ⌜ r ≡ direct.countsLeft counter ⌝ }
+        ensures within { λ r. ⌜ (0 < r) × (r ≤ 0x100000000) ⌝ }
+    {
+        if counter == 0 {
+            return 0x1_0000_0000;
+        }
+        counter as u64
+    }
+
+    // The timer after some ticks, in which the one before it underflowed `before` times.
+    fn serve(self, ticks: u64, before: u64) -> Served
+        ensures { λ r. ⌜ r ≡ direct.servedTimer ticks before self ⌝ }
+    {
+        if self.ch {
+            return self.count(before);
+        }
+        self.count(ticks)
+    }
+
+    // The timer after some counts.
+    fn count(mut self, counts: u64) -> Served
+        ensures { λ r. ⌜ r ≡ direct.countedTimer counts self ⌝ }
+    {
+        if self.en {
+            let first = Self::counts_left(self.counter);
+            if counts < first {
+                self.counter = std::num::wrapping_sub_u32(self.counter, counts as u32);
+                return Served {
+                    underflows: 0,
+                    pulses: 0,
+                    timer: self,
+                };
+            }
+            self.ip = true;
+            if self.rs {
+                let past = counts - first;
+                let period = Self::counts_left(self.reload);
+                self.counter = std::num::wrapping_sub_u32(self.reload, (past % period) as u32);
+                let underflows = 1 + past / period;
+                return Served {
+                    underflows,
+                    pulses: self.pulses(underflows),
+                    timer: self,
+                };
+            }
+            self.counter = 0;
+            self.en = false;
+            return Served {
+                underflows: 1,
+                pulses: self.pulses(1),
+                timer: self,
+            };
+        }
+        Served {
+            underflows: 0,
+            pulses: 0,
+            timer: self,
+        }
+    }
+
+    // The count at which the timer underflows for the j-th time.
+    fn due(self, j: u64) -> u64
+        requires { ⌜ 0 < j ⌝ }
+        ensures { λ r. ⌜ r ≡ direct.due j self ⌝ }
+    {
+        if self.en {
+            let first = Self::counts_left(self.counter);
+            if self.rs {
+                return ends_at(first, Self::counts_left(self.reload), j);
+            }
+            if j == 1 {
+                return first;
+            }
+            return u64::MAX;
+        }
+        u64::MAX
+    }
+
+    // An underflow has a pulse where interrupts are enabled.
+    fn pulses(self, underflows: u64) -> u64
+        ensures { λ r. ⌜ r ≡ direct.pulsesOf self underflows ⌝ }
+    {
+        if self.ie { underflows } else { 0 }
+    }
+}
+
+// A bit of a register where it is set.
+fn flag(set: bool, bit: u32) -> u32
+    ensures is { λ r. ⌜ r ≡ cond set bit 0 ⌝ }
+    ensures within { λ r. ⌜ r ≤ bit ⌝ }
+{
+    if set { bit } else { 0 }
+}
+
+impl Gptimer {
+    // Register offsets; timer n stands at n times STRIDE.
+    pub const SCALER: u32 = 0x00;
+
+    pub const SRELOAD: u32 = 0x04;
+
+    pub const CONFIG: u32 = 0x08;
+
+    pub const STRIDE: u32 = 0x10;
+
+    // CONFIG, as it always reads: separate interrupts, the first of them 8, and four timers.
+    pub const CONFIG_FIXED: u32 = 0x144;
+    // CONFIG, disable timer freeze.
+    pub const DF: u32 = 0x200;
+
+    pub const RESET_SCALER: u16 = 0xFFFF;
+
+    pub fn reset_state() -> Self
+        ensures { λ r. ⌜ r ≡ gpt.resetState ⌝ }
+    {
+        let idle = Timer::reset_state();
+        Gptimer {
+            scaler: Self::RESET_SCALER,
+            sreload: Self::RESET_SCALER,
+            df: false,
+            timers: [idle, idle, idle, Timer::reset_state_4()],
+        }
+    }
+
+    pub fn read(self, offset: u32) -> u32
+        ensures { λ r. ⌜ r ≡ gpt.read offset self ⌝ }
+    {
+        if offset == Self::SCALER {
+            return self.scaler as u32;
+        }
+        if offset == Self::SRELOAD {
+            return self.sreload as u32;
+        }
+        if offset == Self::CONFIG {
+            return Self::CONFIG_FIXED + flag(self.df, Self::DF);
+        }
+        let n = (offset / Self::STRIDE) as usize;
+        if n < 1 {
+            return 0;
+        }
+        if 4 < n {
+            return 0;
+        }
+        self.timers[n - 1].read(offset % Self::STRIDE)
+    }
+
+    pub fn write(mut self, offset: u32, value: u32) -> Self
+        ensures { λ r. ⌜ r ≡ gpt.write offset value self ⌝ }
+    {
+        if offset == Self::SCALER {
+            self.scaler = (value % 0x10000) as u16;
+            return self;
+        }
+        if offset == Self::SRELOAD {
+            self.sreload = (value % 0x10000) as u16;
+            return self;
+        }
+        if offset == Self::CONFIG {
+            self.df = value / Self::DF % 2 == 1;
+            return self;
+        }
+        let n = (offset / Self::STRIDE) as usize;
+        if n < 1 {
+            return self;
+        }
+        if 4 < n {
+            return self;
+        }
+        let timer = self.timers[n - 1].write(offset % Self::STRIDE, value);
+        self.timers[n - 1] = timer;
+        self
+    }
+
+    // Cycles pass. Most spans end before the prescaler's next tick.
+    pub fn advance(mut self, cycles: u64) -> Elapsed
+        ensures { λ r. ⌜ r ≡ gpt.advance cycles self ⌝ }
+    {
+        let scaler = self.scaler as u64;
+        if cycles <= scaler {
+            self.scaler = (scaler - cycles) as u16;
+            return Elapsed {
+                cycles,
+                pulses: [0; 4],
+                unit: self,
+            };
+        }
+        let past = cycles - (scaler + 1);
+        let restart = self.restart();
+        let period = restart + 1;
+        self.scaler = (restart - past % period) as u16;
+        self.tick(cycles, 1 + past / period)
+    }
+
+    // The unit after some ticks, and the pulses in them; `cycles` is only passed on.
+    fn tick(mut self, cycles: u64, ticks: u64) -> Elapsed
+        ensures { λ r. ⌜ r ≡ direct.ticked cycles ticks self ⌝ }
+    {
+        let first = self.timers[0].serve(ticks, ticks);
+        let second = self.timers[1].serve(ticks, first.underflows);
+        let third = self.timers[2].serve(ticks, second.underflows);
+        let fourth = self.timers[3].serve(ticks, third.underflows);
+        let timer1 = first.timer;
+        let timer2 = second.timer;
+        let timer3 = third.timer;
+        let timer4 = fourth.timer;
+        self.timers = [timer1, timer2, timer3, timer4];
+        Elapsed {
+            cycles,
+            pulses: [first.pulses, second.pulses, third.pulses, fourth.pulses],
+            unit: self,
+        }
+    }
+
+    // The value that a tick gives the prescaler.
+    fn restart(self) -> u64
+        ensures is { λ r. ⌜ r ≡ gpt.restart (self .sreload) ⌝ }
+        ensures within { λ r. ⌜ r ≤ 0xFFFF ⌝ }
+    {
+        if self.sreload == 0 {
+            return 0xFFFF;
+        }
+        self.sreload as u64
+    }
+
+    // Cycles pass until one has a pulse, or to the limit.
+    pub fn skip(self, limit: u64) -> Elapsed
+        ensures { λ r. ⌜ r ≡ gpt.skip limit self ⌝ }
+    {
+        let pulse = self.next_pulse();
+        if pulse < limit {
+            return self.advance(pulse);
+        }
+        self.advance(limit)
+    }
+
+    // The cycle of the next pulse, counted from 1; u64::MAX where there is none before then.
+    fn next_pulse(self) -> u64
+        ensures { λ r. ⌜ r ≡ direct.tickCycle self (direct.firstTick (self .timers)) ⌝ }
+    {
+        ends_at(
+            self.scaler as u64 + 1,
+            self.restart() + 1,
+            self.first_tick(),
+        )
+    }
+
+    // The tick of the next pulse, counted from 1.
+    fn first_tick(self) -> u64
+        ensures { λ r. ⌜ r ≡ direct.firstTick (self .timers) ⌝ }
+    {
+        earlier(
+            earlier(self.pulse_tick(0), self.pulse_tick(1)),
+            earlier(self.pulse_tick(2), self.pulse_tick(3)),
+        )
+    }
+
+    // The tick of the first pulse of the timer at place n, counted from 1.
+    fn pulse_tick(self, n: usize) -> u64
+        requires { ⌜ n < 4 ⌝ }
+        ensures { λ r. ⌜ r ≡ direct.pulseTick (self .timers) n ⌝ }
+    {
+        if self.timers[n].ie {
+            return self.due_tick(n + 1, 1);
+        }
+        u64::MAX
+    }
+
+    // The tick at which timer n underflows for the j-th time.
+    fn due_tick(self, n: usize, j: u64) -> u64
+        requires { ⌜ (n ≤ 4) × (0 < j) ⌝ }
+        ensures { λ r. ⌜ r ≡ direct.dueTick (self .timers) n j ⌝ }
+    {
+        let mut at = n;
+        let mut due = j;
+        while 0 < at {
+            at -= 1;
+            let timer = self.timers[at];
+            due = timer.due(due);
+            if timer.ch {} else {
+                return due;
+            }
+        }
+        due
+    }
+}
+
+// A countdown that ends at its count `first` and then every `period` counts: the count at which it ends for the j-th time,
+// u64::MAX where that is beyond 64 bits.
+fn ends_at(first: u64, period: u64, j: u64) -> u64
+    requires { ⌜ (0 < period) × (0 < j) ⌝ }
+    ensures { λ r. ⌜ r ≡ direct.endsAt first period j ⌝ }
+{
+    let again = j - 1;
+    if (u64::MAX - first) / period < again {
+        return u64::MAX;
+    }
+    first + again * period
+}
+
+fn earlier(a: u64, b: u64) -> u64
+    ensures { λ r. ⌜ r ≡ min a b ⌝ }
+{
+    if a < b { a } else { b }
+}
