@@ -1,8 +1,11 @@
--- The timer unit (GPTIMER): paper 01, section "Timer unit", and what "The slow run" says of advances and skips. One
--- definition a rule, under the sentence that it states, in the papers' order. Every field of the code's structs counts, so
--- the definitions are on those structs; a refusal cannot occur, since no state of theirs is ill formed.
-pub mod Direct
+-- The timer unit (GPTIMER): paper 01, section "Timer unit", with what "Windows" and "Refusal numbers" say of an offset
+-- without a register and "The slow run" of advances and skips. One definition a rule, under the sentence that it states;
+-- those that others use stand before them. Every field of the code's structs is a register or a bit of one, so the
+-- definitions are on those structs. A call of the unit is never refused: "A case that the chosen types exclude needs no
+-- test", and the code's types exclude each ill-formed state.
+pub mod Pulses
 pub mod Laws
+pub mod Direct
 use Prim.Native.Nat.{ℕ, zero, suc, _+_, _-_, _^_, _/_, _%_}
 use mathlib.Core.Bool.{Bool, false, true, cond, not, _&&_, _||_}
 use mathlib.Core.List.{List, [], _∷_, map}
@@ -49,6 +52,12 @@ SCALER = 0x00
 abbrev pub SRELOAD : ℕ
 SRELOAD = 0x04
 
+abbrev pub writeScaler : ℕ → Gptimer → Gptimer
+writeScaler value u = withScaler (value % 2 ^ 16) u
+
+abbrev pub writeSreload : ℕ → Gptimer → Gptimer
+writeSreload value u = withSreload (value % 2 ^ 16) u
+
 -- "0x08 CONFIG: 0x144, plus 0x200 if DF is set; only DF (bit 9) is stored."
 abbrev pub CONFIG : ℕ
 CONFIG = 0x08
@@ -59,27 +68,8 @@ DF = 9
 abbrev pub readConfig : Gptimer → ℕ
 readConfig u = 0x144 + cond (u .df) 0x200 0
 
--- "Timer n (1 to 4) at 0x10·n: counter, +4 reload, +8 control. Counter and reload store all 32 bits."
-abbrev pub isTimer : ℕ → Bool
-isTimer n = leb 1 n && leb n 4
-
-abbrev pub STRIDE : ℕ
-STRIDE = 0x10
-
-abbrev pub COUNTER : ℕ
-COUNTER = 0x0
-
-abbrev pub RELOAD : ℕ
-RELOAD = 0x4
-
-abbrev pub CONTROL : ℕ
-CONTROL = 0x8
-
--- timer n; where there is none, one of zeros stands for it and is not looked at
-abbrev pub timer : ℕ → Gptimer → Timer
-timer n u =
-    getD (u .timers) (n - 1)
-    (record { counter = 0; reload = 0; en = false; rs = false; ie = false; ip = false; ch = false })
+abbrev pub writeConfig : ℕ → Gptimer → Gptimer
+writeConfig value u = withDf (bit DF value) u
 
 -- "Control bits: EN 0, RS 1, LD 2, IE 3, IP 4, CH 5."
 abbrev pub EN : ℕ
@@ -119,8 +109,17 @@ readControl t =
     cond (t .en) (2 ^ EN) 0 + cond (t .rs) (2 ^ RS) 0 + cond (t .ie) (2 ^ IE) 0 + cond (t .ip) (2 ^ IP) 0 +
     cond (t .ch) (2 ^ CH) 0
 
--- "An aligned word offset without a register below reads 0 and ignores writes"; a device's own call "answers an offset
--- that is no register's, odd ones included, as a word offset without a register is answered."
+-- "Timer n (1 to 4) at 0x10·n: counter, +4 reload, +8 control. Counter and reload store all 32 bits." They read what is
+-- stored ("R/W" in 001), as the prescaler's registers do.
+abbrev pub COUNTER : ℕ
+COUNTER = 0x0
+
+abbrev pub RELOAD : ℕ
+RELOAD = 0x4
+
+abbrev pub CONTROL : ℕ
+CONTROL = 0x8
+
 abbrev pub readTimer : ℕ → Timer → ℕ
 readTimer offset t =
     cond (eqb offset COUNTER) (t .counter)
@@ -135,6 +134,27 @@ writeTimer offset value t =
     (cond (eqb offset CONTROL) (writeControl value t)
     t))
 
+abbrev pub STRIDE : ℕ
+STRIDE = 0x10
+
+abbrev pub isTimer : ℕ → Bool
+isTimer n = leb 1 n && leb n 4
+
+-- timer n stands at place n - 1; a place that is not there has a timer that is all 0, and no rule asks for it
+abbrev pub zeroTimer : Timer
+zeroTimer = record { counter = 0; reload = 0; en = false; rs = false; ie = false; ip = false; ch = false }
+
+abbrev pub place : List Timer → ℕ → Timer
+place ts i = getD ts i zeroTimer
+
+abbrev pub timer : ℕ → Gptimer → Timer
+timer n u = place (u .timers) (n - 1)
+
+abbrev pub withTimer : ℕ → Timer → Gptimer → Gptimer
+withTimer n t u = withTimers (set (u .timers) (n - 1) t) u
+
+-- "An aligned word offset without a register below reads 0 and ignores writes"; a device's own call "answers an offset
+-- that is no register's, odd ones included, as a word offset without a register is answered."
 unfoldable pub read : ℕ → Gptimer → ℕ
 read offset u =
     cond (eqb offset SCALER) (u .scaler)
@@ -145,12 +165,11 @@ read offset u =
 
 unfoldable pub write : ℕ → ℕ → Gptimer → Gptimer
 write offset value u =
-    cond (eqb offset SCALER) (withScaler (value % 2 ^ 16) u)
-    (cond (eqb offset SRELOAD) (withSreload (value % 2 ^ 16) u)
-    (cond (eqb offset CONFIG) (withDf (bit DF value) u)
+    cond (eqb offset SCALER) (writeScaler value u)
+    (cond (eqb offset SRELOAD) (writeSreload value u)
+    (cond (eqb offset CONFIG) (writeConfig value u)
     (cond (isTimer (offset / STRIDE))
-    (withTimers
-    (set (u .timers) (offset / STRIDE - 1) (writeTimer (offset % STRIDE) value (timer (offset / STRIDE) u))) u)
+    (withTimer (offset / STRIDE) (writeTimer (offset % STRIDE) value (timer (offset / STRIDE) u)) u)
     u)))
 
 -- "Counting: the counter falls by 1; a counter at 0 goes to 0xFFFFFFFF (house)."
@@ -158,8 +177,8 @@ unfoldable pub fall : ℕ → ℕ
 fall counter = cond (eqb counter 0) 0xFFFFFFFF (counter - 1)
 
 -- "If the new number is 0 it is an underflow:"
-unfoldable pub underflows : Timer → Bool
-underflows t = eqb (fall (t .counter)) 0
+unfoldable pub countUnderflows : Timer → Bool
+countUnderflows t = eqb (fall (t .counter)) 0
 
 -- "IP is set; with RS the counter takes the reload, without it EN is cleared;"
 abbrev pub underflow : Timer → Timer
@@ -167,19 +186,19 @@ underflow t = withIp true (cond (t .rs) (withCounter (t .reload) t) (withEn fals
 
 unfoldable pub count : Timer → Timer
 count t =
-    cond (underflows t) (underflow (withCounter (fall (t .counter)) t)) (withCounter (fall (t .counter)) t)
+    cond (countUnderflows t) (underflow (withCounter (fall (t .counter)) t)) (withCounter (fall (t .counter)) t)
 
--- "An enabled timer counts if CH is 0, or if timer n-1 underflowed in this same tick."
-abbrev pub counts : Bool → Timer → Bool
-counts before t = t .en && (not (t .ch) || before)
+-- "An enabled timer counts if CH is 0, or if timer n-1 underflowed in this same tick." Whether timer n-1 did is `before`.
+abbrev pub countsNow : Bool → Timer → Bool
+countsNow before t = t .en && (not (t .ch) || before)
 
 abbrev pub underflowsNow : Bool → Timer → Bool
-underflowsNow before t = counts before t && underflows t
+underflowsNow before t = countsNow before t && countUnderflows t
 
 -- "One tick serves timers 1 to 4 in order."
 abbrev pub serve : Bool → List Timer → List Timer
 serve before [] = []
-serve before (t ∷ ts) = cond (counts before t) (count t) t ∷ serve (underflowsNow before t) ts
+serve before (t ∷ ts) = cond (countsNow before t) (count t) t ∷ serve (underflowsNow before t) ts
 
 -- "with IE there is one pulse, whether or not IP was set already."
 abbrev pub servePulses : Bool → List Timer → List ℕ
@@ -199,22 +218,19 @@ noPulses ts = map (λ (t : Timer). 0) ts
 
 -- "One cycle: if the prescaler value is 0 there is a tick, and the value becomes the reload, or 0xFFFF if the reload is
 -- 0. Otherwise it falls by 1."
-abbrev pub restart : ℕ → ℕ
-restart sreload = cond (eqb sreload 0) 0xFFFF sreload
+abbrev pub valueAfterTick : ℕ → ℕ
+valueAfterTick sreload = cond (eqb sreload 0) 0xFFFF sreload
 
 unfoldable pub cycle : Gptimer → Gptimer
 cycle u =
     cond (eqb (u .scaler) 0)
-    (withScaler (restart (u .sreload)) (withTimers (tick (u .timers)) u))
+    (withScaler (valueAfterTick (u .sreload)) (withTimers (tick (u .timers)) u))
     (withScaler (u .scaler - 1) u)
 
-unfoldable pub pulses : Gptimer → List ℕ
-pulses u = cond (eqb (u .scaler) 0) (tickPulses (u .timers)) (noPulses (u .timers))
+unfoldable pub cyclePulses : Gptimer → List ℕ
+cyclePulses u = cond (eqb (u .scaler) 0) (tickPulses (u .timers)) (noPulses (u .timers))
 
 -- "Reset: prescaler both 0xFFFF; DF 0; timers 1 to 3 all 0; timer 4 control 0x09, counter and reload 0xFFFF."
-abbrev pub resetTimer : Timer
-resetTimer = record { counter = 0; reload = 0; en = false; rs = false; ie = false; ip = false; ch = false }
-
 abbrev pub resetTimer4 : Timer
 resetTimer4 =
     record { counter = 0xFFFF; reload = 0xFFFF; en = true; rs = false; ie = true; ip = false; ch = false }
@@ -225,32 +241,33 @@ resetState =
       scaler = 0xFFFF;
       sreload = 0xFFFF;
       df = false;
-      timers = resetTimer ∷ resetTimer ∷ resetTimer ∷ resetTimer4 ∷ [];
+      timers = zeroTimer ∷ zeroTimer ∷ zeroTimer ∷ resetTimer4 ∷ [];
     }
 
 -- "For both, the cycles passed are those done, and each timer's pulse count is how many of them had its pulse."
-abbrev pub add : List ℕ → List ℕ → List ℕ
-add [] ys = ys
-add (x ∷ xs) [] = x ∷ xs
-add (x ∷ xs) (y ∷ ys) = (x + y) ∷ add xs ys
+abbrev pub addPulses : List ℕ → List ℕ → List ℕ
+addPulses [] ys = ys
+addPulses (x ∷ xs) [] = x ∷ xs
+addPulses (x ∷ xs) (y ∷ ys) = (x + y) ∷ addPulses xs ys
 
 abbrev pub noCycle : Gptimer → Elapsed
 noCycle u = record { cycles = 0; pulses = noPulses (u .timers); unit = u }
 
-abbrev pub cycleAnd : Gptimer → Elapsed → Elapsed
-cycleAnd u rest =
-    record { cycles = suc (rest .cycles); pulses = add (pulses u) (rest .pulses); unit = rest .unit }
+abbrev pub cycleThen : Gptimer → Elapsed → Elapsed
+cycleThen u rest =
+    record { cycles = suc (rest .cycles); pulses = addPulses (cyclePulses u) (rest .pulses); unit = rest .unit }
 
 -- "An advance does one cycle as often as its span says."
 unfoldable pub advance : ℕ → Gptimer → Elapsed
 advance zero u = noCycle u
-advance (suc n) u = cycleAnd u (advance n (cycle u))
+advance (suc n) u = cycleThen u (advance n (cycle u))
 
--- "A skip does one cycle after another while none had a pulse of any timer and the limit isn't reached."
-abbrev pub any : List ℕ → Bool
-any [] = false
-any (x ∷ xs) = ltb 0 x || any xs
+-- "A skip does one cycle after another while none had a pulse of any timer and the limit isn't reached." "Limit 0 passes
+-- 0."
+abbrev pub anyPulse : List ℕ → Bool
+anyPulse [] = false
+anyPulse (x ∷ xs) = ltb 0 x || anyPulse xs
 
 unfoldable pub skip : ℕ → Gptimer → Elapsed
 skip zero u = noCycle u
-skip (suc n) u = cycleAnd u (cond (any (pulses u)) (noCycle (cycle u)) (skip n (cycle u)))
+skip (suc n) u = cycleThen u (cond (anyPulse (cyclePulses u)) (noCycle (cycle u)) (skip n (cycle u)))

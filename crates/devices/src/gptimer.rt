@@ -1,6 +1,6 @@
-// The timer unit, GRLIB's GPTIMER: a prescaler and four timers, as a state by value that no value of is ill formed. Each
-// public call answers what `specs/Gptimer.antt` defines. Time is not walked: a span of cycles is worked out by divisions,
-// and a skip from the time of the next pulse.
+// The timer unit, GRLIB's GPTIMER: a prescaler and four timers, as a state by value. Its types leave no state ill formed, so
+// no call is refused. Each public call answers what `specs/Gptimer.antt` defines, whatever the unit and the arguments. Time is
+// not walked: a span is worked out by divisions (`specs/Gptimer/Direct.antt`), and a skip from the time of the next pulse.
 ghost use mathlib.Core.Path.{_≡_};
 ghost use mathlib.Core.Bool.{cond, false};
 ghost use Prim.Native.Nat.{suc, _<_, _≤_, _%_, min};
@@ -54,22 +54,22 @@ impl Timer {
 
     pub const CONTROL: u32 = 0x8;
 
-    // Control, enable.
+    // Control, as masks. Enable.
     pub const EN: u32 = 0x01;
-    // Control, restart: an underflow takes the reload.
+    // Restart: an underflow takes the reload.
     pub const RS: u32 = 0x02;
-    // Control, load: a written 1 copies the reload to the counter.
+    // Load: a written 1 copies the reload to the counter.
     pub const LD: u32 = 0x04;
-    // Control, interrupt enable.
+    // Interrupt enable.
     pub const IE: u32 = 0x08;
-    // Control, interrupt pending: a written 1 clears it.
+    // Interrupt pending: a written 1 clears it.
     pub const IP: u32 = 0x10;
-    // Control, chain: the timer counts underflows of the one before it.
+    // Chain: the timer counts the underflows of the one before it; timer 1 ignores it.
     pub const CH: u32 = 0x20;
 
     // Timers 1 to 3 at reset.
     pub fn reset_state() -> Self
-        ensures { λ r. ⌜ r ≡ gpt.resetTimer ⌝ }
+        ensures { λ r. ⌜ r ≡ gpt.zeroTimer ⌝ }
     {
         Timer {
             counter: 0,
@@ -238,11 +238,11 @@ impl Timer {
     {
         if self.en {
             let first = Self::counts_left(self.counter);
-            if self.rs {
-                return ends_at(first, Self::counts_left(self.reload), j);
-            }
             if j == 1 {
                 return first;
+            }
+            if self.rs {
+                return ends_at(first, Self::counts_left(self.reload), j);
             }
             return u64::MAX;
         }
@@ -275,9 +275,9 @@ impl Gptimer {
 
     pub const STRIDE: u32 = 0x10;
 
-    // CONFIG, as it always reads: separate interrupts, the first of them 8, and four timers.
+    // CONFIG's fixed part: separate interrupts, the first of them 8, and four timers.
     pub const CONFIG_FIXED: u32 = 0x144;
-    // CONFIG, disable timer freeze.
+    // CONFIG, disable timer freeze, as a mask.
     pub const DF: u32 = 0x200;
 
     pub const RESET_SCALER: u16 = 0xFFFF;
@@ -343,7 +343,7 @@ impl Gptimer {
         self
     }
 
-    // Cycles pass. Most spans end before the prescaler's next tick.
+    // Cycles pass. A span that ends before the prescaler's next tick takes no division and no look at the timers.
     pub fn advance(mut self, cycles: u64) -> Elapsed
         ensures { λ r. ⌜ r ≡ gpt.advance cycles self ⌝ }
     {
@@ -357,7 +357,7 @@ impl Gptimer {
             };
         }
         let past = cycles - (scaler + 1);
-        let restart = self.restart();
+        let restart = self.value_after_tick();
         let period = restart + 1;
         self.scaler = (restart - past % period) as u16;
         self.tick(cycles, 1 + past / period)
@@ -367,6 +367,7 @@ impl Gptimer {
     fn tick(mut self, cycles: u64, ticks: u64) -> Elapsed
         ensures { λ r. ⌜ r ≡ direct.ticked cycles ticks self ⌝ }
     {
+        // As if a timer before it underflowed at every tick: timer 1 ignores CH.
         let first = self.timers[0].serve(ticks, ticks);
         let second = self.timers[1].serve(ticks, first.underflows);
         let third = self.timers[2].serve(ticks, second.underflows);
@@ -384,8 +385,8 @@ impl Gptimer {
     }
 
     // The value that a tick gives the prescaler.
-    fn restart(self) -> u64
-        ensures is { λ r. ⌜ r ≡ gpt.restart (self .sreload) ⌝ }
+    fn value_after_tick(self) -> u64
+        ensures is { λ r. ⌜ r ≡ gpt.valueAfterTick (self .sreload) ⌝ }
         ensures within { λ r. ⌜ r ≤ 0xFFFF ⌝ }
     {
         if self.sreload == 0 {
@@ -398,11 +399,7 @@ impl Gptimer {
     pub fn skip(self, limit: u64) -> Elapsed
         ensures { λ r. ⌜ r ≡ gpt.skip limit self ⌝ }
     {
-        let pulse = self.next_pulse();
-        if pulse < limit {
-            return self.advance(pulse);
-        }
-        self.advance(limit)
+        self.advance(earlier(self.next_pulse(), limit))
     }
 
     // The cycle of the next pulse, counted from 1; u64::MAX where there is none before then.
@@ -411,7 +408,7 @@ impl Gptimer {
     {
         ends_at(
             self.scaler as u64 + 1,
-            self.restart() + 1,
+            self.value_after_tick() + 1,
             self.first_tick(),
         )
     }
@@ -448,7 +445,7 @@ impl Gptimer {
             at -= 1;
             let timer = self.timers[at];
             due = timer.due(due);
-            if timer.ch {} else {
+            if !timer.ch {
                 return due;
             }
         }

@@ -1,31 +1,18 @@
 -- What the code does in some counts is the direct form. Assumes nothing.
-use Prim.Native.Nat.{ℕ, zero, suc, _+_, _-_, _/_, _%_, _^_, _<_, _≤_}
-use mathlib.Core.Path.{_≡_, refl, ap, _∙_}
+use Prim.Native.Nat.{ℕ, _+_, _-_, _/_, _%_, _^_, _<_, _≤_}
+use mathlib.Core.Path.{_≡_, refl, ap, sym, _∙_}
 use mathlib.Core.Bool.{Bool, true, false, cond}
-use native.Mathlib.Decide.{ℕ-discrete}
 use native.Mathlib.Omega.{arith}
 use lib.Dec.{ltb}
 use native.Mathlib.Nat.{lt-of-lt-of-le, mod-lt, div-le-self}
 use native.Mathlib.Numerals.{one-add}
-use borrow.Author.Tests.{lt-ltb, le-ltb, eq-eqb, ne-eqb}
-use Rattle.devices.specs.Cond.{chosen}
-use Rattle.devices.specs.Gptimer.{fall, withCounter, withIp, withEn}
+use borrow.Author.Tests.{lt-ltb, le-ltb}
+use Rattle.devices.specs.Cond.{same}
+use Rattle.devices.specs.Gptimer.{withCounter, withIp, withEn}
 use Rattle.devices.specs.Gptimer.Direct.{falls, countsLeft, stands, ends, once, counted, underflowsIn, pulsesOf, countsIn, countedTimer, servedTimer}
+use Rattle.devices.specs.Gptimer.Direct.Time.{falls-wrap}
 use Rattle.devices.specs.declared.gptimer.Timer.{Timer}
 use Rattle.devices.specs.declared.gptimer.Served.{Served}
-
--- a wrapping subtraction is as many falls
-falls-wrap : (k c w : ℕ) → (w + k) % 2 ^ 32 ≡ c → w < 2 ^ 32 → w ≡ falls k c
-unfolding falls fall
-falls-wrap zero c w e l = omega arith
-falls-wrap (suc k) c w e l =
-    elim (ℕ-discrete c 0) [
-      | yes z ↦ rw (eq-eqb c 0 z) (falls-wrap k _ w (omega arith) l)
-      | no z ↦ rw (ne-eqb c 0 z) (falls-wrap k _ w (omega arith) l)
-    ]
-
-same : {A : Type 0} (b : Bool) (x : A) → x ≡ cond b x x
-same b x = chosen (λ c y. x ≡ y) b x x refl refl
 
 module _ (k : ℕ) (t : Timer) where
   abbrev Counts : ℕ → ℕ → Timer → Type 0
@@ -38,7 +25,7 @@ module _ (k : ℕ) (t : Timer) where
 
   pub idle : t .en ≡ false → Counts 0 0 t
   unfolding counted underflowsIn
-  idle off = counts-to 0 0 t (same (t .ie) 0) (rw off refl) (rw off refl)
+  idle off = counts-to 0 0 t (sym (same (t .ie) 0)) (rw off refl) (rw off refl)
 
   pub falling :
       (f w : ℕ) → t .en ≡ true → f ≡ countsLeft (t .counter) → k < f →
@@ -48,7 +35,7 @@ module _ (k : ℕ) (t : Timer) where
   falling f w on left l wrap small =
       let before : ltb k (countsLeft (t .counter)) ≡ true = lt-ltb k _ (rw (← left) l) in
       let fell : w ≡ falls k (t .counter) = falls-wrap k (t .counter) w wrap small in
-      counts-to 0 0 _ (same (t .ie) 0) (rw (on, before) (same (t .rs) 0)) (rw (on, before, ← fell) (same (t .rs) _))
+      counts-to 0 0 _ (sym (same (t .ie) 0)) (rw (on, before) (sym (same (t .rs) 0))) (rw (on, before, ← fell) (sym (same (t .rs) _)))
 
   pub restarting :
       (f p w q : ℕ) → t .en ≡ true → t .rs ≡ true → f ≡ countsLeft (t .counter) → f ≤ k →

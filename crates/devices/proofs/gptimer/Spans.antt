@@ -4,12 +4,13 @@ use mathlib.Core.Path.{_≡_, refl, ap, sym, _∙_}
 use mathlib.Core.Bool.{Bool, true, false, cond}
 use mathlib.Core.List.{List, [], _∷_, map}
 use native.Mathlib.Omega.{arith}
-use native.Mathlib.Nat.{mod-lt, div-le-self, le-div-iff-mul-le, div-lt-iff-lt-mul, min-eq-left, min-eq-right, le-of-lt}
+use native.Mathlib.Nat.{mod-lt, div-le-self, le-div-iff-mul-le, div-lt-iff-lt-mul}
 use native.Mathlib.Numerals.{add-one, one-add}
 use lib.ListN.{length, length-map}
 use borrow.Author.Tests.{lt-ltb, le-ltb}
-use Rattle.devices.specs.Gptimer.{restart, withScaler, withTimers, noPulses, advance, skip}
-use Rattle.devices.specs.Gptimer.Direct.{never, ends, stands, endsAt, servedTimer, ticked, elapsed, due, place}
+use Rattle.devices.specs.Cond.{chosen}
+use Rattle.devices.specs.Gptimer.{place, valueAfterTick, withScaler, withTimers, noPulses, advance, skip}
+use Rattle.devices.specs.Gptimer.Direct.{never, ends, stands, endsAt, onceAt, countsLeft, servedTimer, ticked, elapsed, due}
 use Rattle.devices.specs.Gptimer.Direct.{dueTick, pulseTick, firstTick, tickCycle}
 use Rattle.devices.specs.Gptimer.Direct.Time.{served-none, servedPulses-none, advance-elapsed}
 use Rattle.devices.specs.Gptimer.Direct.Due.{four, skip-advance, due-later, first-later}
@@ -61,7 +62,7 @@ before-tick u n whole l =
 
 module _ (x : Elapsed) (u : Gptimer) (whole : length (u .timers) ≡ 4) where
   pub past-tick :
-      (n r : ℕ) → r ≡ restart (u .sreload) → u .scaler < n →
+      (n r : ℕ) → r ≡ valueAfterTick (u .sreload) → u .scaler < n →
       x ≡ ticked n (1 + (n - (u .scaler + 1)) / (r + 1)) (withScaler (r - (n - (u .scaler + 1)) % (r + 1)) u) →
       x ≡ advance n u
   unfolding elapsed ends stands
@@ -69,18 +70,13 @@ module _ (x : Elapsed) (u : Gptimer) (whole : length (u .timers) ≡ 4) where
       rw (advance-elapsed n u, le-ltb n (suc (u .scaler)) (omega arith), ← er)
       (simp (add-one, one-add) at e)
 
-  -- a skip to the next pulse, and one to its limit
-  pub skips-to-pulse :
-      (limit d : ℕ) → limit < 2 ^ 64 → d ≡ tickCycle u (firstTick (u .timers)) → d < limit → x ≡ advance d u →
-      x ≡ skip limit u
-  skips-to-pulse limit d small due l e =
-      rw (skip-advance limit u whole (omega arith), ← due, min-eq-left (le-of-lt l)) e
-
-  pub skips-to-limit :
-      (limit d : ℕ) → limit < 2 ^ 64 → d ≡ tickCycle u (firstTick (u .timers)) → limit ≤ d → x ≡ advance limit u →
-      x ≡ skip limit u
-  skips-to-limit limit d small due l e =
-      rw (skip-advance limit u whole (omega arith), ← due, min-eq-right l) e
+-- a skip to the next pulse or to its limit, whichever is earlier
+pub skip-by :
+    (x : Elapsed) (u : Gptimer) (limit d n : ℕ) → length (u .timers) ≡ 4 → limit < 2 ^ 64 →
+    d ≡ tickCycle u (firstTick (u .timers)) → n ≡ min d limit → x ≡ advance n u →
+    x ≡ skip limit u
+skip-by x u limit d n whole small due earlier e =
+    rw (skip-advance limit u whole (omega arith), ← due, ← earlier) e
 
 -- the ticks fit into the code's words, and so does a remainder by one more than r
 pub ticks-fit : (n v p : ℕ) → v < n → n < 2 ^ 64 → 1 + (n - (v + 1)) / p < 2 ^ 64
@@ -108,6 +104,13 @@ module _ (f p j : ℕ) (small : f < 2 ^ 64) (pos : 0 < p) where
   unfolding endsAt
   end-beyond l = let far : 2 ^ 64 - 1 - f < (j - 1) * p = div-lt-iff-lt-mul pos .0 l in omega arith
 
+-- a timer's first underflow
+pub due-first :
+    (t : Timer) (j f : ℕ) → t .en ≡ true → j ≡ 1 → f ≡ countsLeft (t .counter) → f ≤ 2 ^ 32 → f ≡ due j t
+unfolding due endsAt onceAt
+due-first t j f on one e l =
+    rw (on, one, ← e) (chosen (λ b x. f ≡ x) (t .rs) _ _ (omega arith) refl)
+
 -- of a countdown whose numbers a call answered
 pub end-of : (r f g p q j : ℕ) → f ≡ g → p ≡ q → r ≡ endsAt f p j → r ≡ endsAt g q j
 end-of r f g p q j e h i = rw (← e, ← h) i
@@ -120,7 +123,7 @@ pub first-after : (ts : List Timer) (m : ℕ) → length ts ≡ 4 → m ≡ firs
 first-after ts m whole e = rw e (first-later ts whole)
 
 pub cycle-of :
-    (u : Gptimer) (r s m : ℕ) → s ≡ restart (u .sreload) → m ≡ firstTick (u .timers) →
+    (u : Gptimer) (r s m : ℕ) → s ≡ valueAfterTick (u .sreload) → m ≡ firstTick (u .timers) →
     r ≡ endsAt (u .scaler + 1) (s + 1) m → r ≡ tickCycle u (firstTick (u .timers))
 cycle-of u r s m es em e = rw (← es, ← em, ← add-one (u .scaler), ← add-one s) e
 

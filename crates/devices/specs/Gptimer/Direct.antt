@@ -6,9 +6,8 @@ pub mod Due
 use Prim.Native.Nat.{ℕ, zero, suc, _+_, _-_, _*_, _/_, _%_, _^_, min}
 use mathlib.Core.Bool.{Bool, false, true, cond}
 use mathlib.Core.List.{List, [], _∷_}
-use lib.ListN.{getD}
 use lib.Dec.{eqb, ltb}
-use Rattle.devices.specs.Gptimer.{fall, restart, withScaler, withTimers, withCounter, withEn, withIp, resetTimer}
+use Rattle.devices.specs.Gptimer.{fall, valueAfterTick, withScaler, withTimers, withCounter, withEn, withIp, place}
 use Rattle.devices.specs.declared.gptimer.Timer.{Timer}
 use Rattle.devices.specs.declared.gptimer.Gptimer.{Gptimer}
 use Rattle.devices.specs.declared.gptimer.Elapsed.{Elapsed}
@@ -99,14 +98,14 @@ servedPulses ticks before (t ∷ ts) =
 
 -- the prescaler in n cycles
 abbrev pub period : Gptimer → ℕ
-period u = suc (restart (u .sreload))
+period u = suc (valueAfterTick (u .sreload))
 
 abbrev pub ticksIn : ℕ → Gptimer → ℕ
 ticksIn n u = ends (suc (u .scaler)) (period u) n
 
 abbrev pub scalerAfter : ℕ → Gptimer → ℕ
 scalerAfter n u =
-    stands (suc (u .scaler)) (period u) (λ (k : ℕ). u .scaler - k) (λ (k : ℕ). restart (u .sreload) - k) n
+    stands (suc (u .scaler)) (period u) (λ (k : ℕ). u .scaler - k) (λ (k : ℕ). valueAfterTick (u .sreload) - k) n
 
 abbrev pub ticked : ℕ → ℕ → Gptimer → Elapsed
 ticked cycles ticks u =
@@ -130,9 +129,6 @@ due j t =
 
 -- the tick at which timer n underflows for the j-th time: where it is chained its counts are underflows of timer n-1, and
 -- before timer 1 stands the tick itself
-abbrev pub place : List Timer → ℕ → Timer
-place ts n = getD ts n resetTimer
-
 unfoldable pub dueTick : List Timer → ℕ → ℕ → ℕ
 dueTick ts zero j = j
 dueTick ts (suc n) j = cond (place ts n .ch) (dueTick ts n (due j (place ts n))) (due j (place ts n))

@@ -11,12 +11,13 @@ use native.Mathlib.Nat.{lt-of-le-of-lt, lt-of-lt-of-le}
 use lib.Dec.{leb, ltb, eqb}
 use lib.ListN.{length}
 use borrow.Author.Tests.{le-leb, lt-leb, leb-false}
-use Rattle.devices.specs.Gptimer.{any, advance, skip}
+use Rattle.devices.specs.Gptimer.{place, anyPulse, advance, skip}
 use Rattle.devices.specs.Gptimer.Direct.{never, ends, endsAt, once, onceAt, countsLeft, underflowsIn, countsIn, pulsesOf, servedPulses}
-use Rattle.devices.specs.Gptimer.Direct.{due, place, dueTick, pulseTick, firstTick, tickCycle, ticksIn, period, elapsed}
+use Rattle.devices.specs.Gptimer.Direct.{due, dueTick, pulseTick, firstTick, tickCycle, ticksIn, period, elapsed}
 use Rattle.devices.specs.Gptimer.Direct.Countdown.{Due, due-through, not-due, ends-due, once-due, earlier}
 use Rattle.devices.specs.Gptimer.Direct.Time.{left-pos, servedPulses-none, advance-elapsed}
-use Rattle.devices.specs.Gptimer.Laws.{any-none, advance-cycles, skip-least, least-unique}
+use Rattle.devices.specs.Gptimer.Pulses.{any-none}
+use Rattle.devices.specs.Gptimer.Laws.{advance-cycles, skip-least, least-unique}
 use Rattle.devices.specs.declared.gptimer.Timer.{Timer}
 use Rattle.devices.specs.declared.gptimer.Gptimer.{Gptimer}
 
@@ -82,10 +83,10 @@ four P f (a ∷ b ∷ c ∷ d ∷ x ∷ ts) e = absurd (omega arith)
 
 first-due :
     (ticks : ℕ) (ts : List Timer) → length ts ≡ 4 → ticks < never →
-    any (servedPulses ticks ticks ts) ≡ leb (firstTick ts) ticks
+    anyPulse (servedPulses ticks ticks ts) ≡ leb (firstTick ts) ticks
 unfolding underflowsAt
 first-due ticks ts e small =
-    four (λ ts. any (servedPulses ticks ticks ts) ≡ leb (firstTick ts) ticks)
+    four (λ ts. anyPulse (servedPulses ticks ticks ts) ≡ leb (firstTick ts) ticks)
     (λ a b c d.
     let ts : List Timer = a ∷ b ∷ c ∷ d ∷ [] in
     rw (
@@ -105,12 +106,12 @@ first-due ticks ts e small =
 pub first-later : (ts : List Timer) → length ts ≡ 4 → 0 < firstTick ts
 first-later ts four =
     leb-false (firstTick ts) 0
-    (sym (first-due 0 ts four (omega arith)) ∙ ap any (servedPulses-none ts) ∙ any-none ts)
+    (sym (first-due 0 ts four (omega arith)) ∙ ap anyPulse (servedPulses-none ts) ∙ any-none ts)
 
 -- Some timer has pulsed exactly from the cycle of the first pulse's tick on.
 cycles-due :
     (n : ℕ) (u : Gptimer) → length (u .timers) ≡ 4 → n < never →
-    any (advance n u .pulses) ≡ leb (tickCycle u (firstTick (u .timers))) n
+    anyPulse (advance n u .pulses) ≡ leb (tickCycle u (firstTick (u .timers))) n
 unfolding elapsed
 cycles-due n u four small =
     let ticks : Due n (ticksIn n u) (tickCycle u) =
@@ -127,7 +128,7 @@ skip-advance limit u four small =
     by-least (tickCycle u (firstTick (u .timers))) (λ k l. cycles-due k u four (lt-of-lt-of-le l small))
   where
     by-least :
-        (d : ℕ) → ((k : ℕ) → k < limit → any (advance k u .pulses) ≡ leb d k) →
+        (d : ℕ) → ((k : ℕ) → k < limit → anyPulse (advance k u .pulses) ≡ leb d k) →
         skip limit u ≡ advance (min d limit) u
     by-least d by =
         let n : ℕ = min d limit in

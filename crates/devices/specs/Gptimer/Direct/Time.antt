@@ -1,22 +1,24 @@
 -- The direct form is what single counts, ticks and cycles do, one after another. Assumes nothing.
-use Prim.Native.Nat.{ℕ, zero, suc, _+_, _-_, _<_, _≤_, _^_}
-use mathlib.Core.Path.{_≡_, refl, ap, sym}
+use Prim.Native.Nat.{ℕ, zero, suc, _+_, _-_, _%_, _^_, _<_}
+use mathlib.Core.Path.{_≡_, refl, sym}
 use mathlib.Core.Bool.{Bool, true, false, cond, not, _&&_, _||_, true≢false}
-use mathlib.Core.List.{List, [], _∷_, map}
-use native.Mathlib.Decide.{decLt, ℕ-discrete}
+use mathlib.Core.List.{List, [], _∷_}
+use native.Mathlib.Decide.{ℕ-discrete}
 use native.Mathlib.Omega.{arith}
 use native.Mathlib.Nat.{zero-add, suc-sub-suc, sub-zero}
 use native.Mathlib.Numerals.{one-add}
-use lib.Dec.{leb, ltb, eqb, leb·suc-suc}
+use lib.Dec.{eqb, leb·suc-suc}
 use borrow.Author.Tests.{lt-ltb, le-ltb, eq-eqb, ne-eqb, eqb-true}
-use Rattle.devices.specs.Gptimer.{fall, underflows, underflow, count, counts, underflowsNow, serve, servePulses}
-use Rattle.devices.specs.Gptimer.{withCounter, withEn, withIp, noPulses, add, cycle, pulses, cycleAnd, advance, restart}
+use Rattle.devices.specs.Cond.{chosen, same}
+use Rattle.devices.specs.Gptimer.{fall, countUnderflows, count, countsNow, underflowsNow, serve, servePulses}
+use Rattle.devices.specs.Gptimer.{withCounter, withEn, withIp, noPulses, addPulses, valueAfterTick}
+use Rattle.devices.specs.Gptimer.{cycle, cyclePulses, cycleThen, advance}
 use Rattle.devices.specs.Gptimer.Direct.{ends, once, stands, countsLeft, falls, fallen, restarted, stopped}
-use Rattle.devices.specs.Gptimer.Direct.{counted, underflowsIn, countsIn, served, servedPulses, elapsed}
-use Rattle.devices.specs.Gptimer.Direct.Countdown.{ends-none, ends-fall, ends-again, stands-none, stands-fall, stands-again, stands-past}
+use Rattle.devices.specs.Gptimer.Direct.{counted, underflowsIn, countsIn, served, servedPulses, period, elapsed}
+use Rattle.devices.specs.Gptimer.Direct.Countdown.{ends-none, ends-fall, ends-again}
+use Rattle.devices.specs.Gptimer.Direct.Countdown.{stands-none, stands-fall, stands-again, stands-past}
 use Rattle.devices.specs.declared.gptimer.Timer.{Timer}
 use Rattle.devices.specs.declared.gptimer.Gptimer.{Gptimer}
-use Rattle.devices.specs.declared.gptimer.Elapsed.{Elapsed}
 
 -- one more, where b says so
 abbrev more : Bool → ℕ → ℕ
@@ -49,6 +51,16 @@ unfolding countsLeft fall
 left-falls zero e = refl
 left-falls (suc c) e = let z : eqb c 0 ≡ false = rw (← fall-suc c) e in rw (left-suc c, fall-suc c, z) refl
 
+-- a wrapping subtraction is as many falls
+pub falls-wrap : (k c w : ℕ) → (w + k) % 2 ^ 32 ≡ c → w < 2 ^ 32 → w ≡ falls k c
+unfolding falls fall
+falls-wrap zero c w e l = omega arith
+falls-wrap (suc k) c w e l =
+    elim (ℕ-discrete c 0) [
+      | yes z ↦ rw (eq-eqb c 0 z) (falls-wrap k _ w (omega arith) l)
+      | no z ↦ rw (ne-eqb c 0 z) (falls-wrap k _ w (omega arith) l)
+    ]
+
 -- One count of an enabled timer, and k more.
 abbrev enabled : ℕ → ℕ → Bool → Bool → Bool → Bool → Timer
 enabled c l rs ie ip ch = record { counter = c; reload = l; en = true; rs = rs; ie = ie; ip = ip; ch = ch }
@@ -56,11 +68,12 @@ enabled c l rs ie ip ch = record { counter = c; reload = l; en = true; rs = rs; 
 counted-suc :
     (k c l : ℕ) (rs ie ip ch u : Bool) → eqb (fall c) 0 ≡ u →
     counted (suc k) (enabled c l rs ie ip ch) ≡ counted k (count (enabled c l rs ie ip ch))
-unfolding counted count underflows falls
+unfolding counted count countUnderflows falls
 counted-suc k c l true ie ip ch true e =
     rw (left-last c e, e) (stands-again (countsLeft l) k (left-pos l) _ _)
 counted-suc k c l false ie ip ch true e =
-    rw (left-last c e, e, stands-past 1 1 (fallen (enabled c l false ie ip ch)) (stopped (enabled c l false ie ip ch)) (suc k) (omega arith), eqb-true (fall c) 0 e) refl
+    let t : Timer = enabled c l false ie ip ch in
+    rw (left-last c e, e, stands-past 1 1 (fallen t) (stopped t) (suc k) (omega arith), eqb-true (fall c) 0 e) refl
 counted-suc k c l true ie ip ch false e =
     rw (e, left-falls c e) (stands-fall (countsLeft (fall c)) (countsLeft l) _ _ _ k refl)
 counted-suc k c l false ie ip ch false e =
@@ -70,30 +83,25 @@ underflows-suc :
     (k c l : ℕ) (rs ie ip ch u : Bool) → eqb (fall c) 0 ≡ u →
     underflowsIn (suc k) (enabled c l rs ie ip ch) ≡
     more u (underflowsIn k (count (enabled c l rs ie ip ch)))
-unfolding underflowsIn count underflows once
+unfolding underflowsIn count countUnderflows once
 underflows-suc k c l true ie ip ch true e = rw (left-last c e, e) (ends-again (countsLeft l) k (left-pos l))
 underflows-suc k c l false ie ip ch true e = rw (left-last c e, e, le-ltb (suc k) 1 (omega arith)) refl
 underflows-suc k c l true ie ip ch false e = rw (e, left-falls c e) (ends-fall (countsLeft (fall c)) (countsLeft l) k)
 underflows-suc k c l false ie ip ch false e = rw (e, left-falls c e, leb·suc-suc (suc k) (countsLeft (fall c))) refl
 
 -- a count leaves CH and IE as they are
-either : {A B : Type 0} (f : A → B) (b : Bool) (x y : A) (z : B) → f x ≡ z → f y ≡ z → f (cond b x y) ≡ z
-either f true x y z p q = p
-either f false x y z p q = q
-
-count-keeps :
-    {B : Type 0} (f : Timer → B) →
-    ((t : Timer) (c : ℕ) (en ip : Bool) → f (withIp ip (withEn en (withCounter c t))) ≡ f t) →
-    (t : Timer) → f (count t) ≡ f t
-unfolding count
-count-keeps f same t =
-    either f (underflows t) _ _ _ (either (λ (x : Timer). f (withIp true x)) (t .rs) _ _ _ (same t _ _ _) (same t _ _ _))
-    (same t _ _ _)
+module _ {B : Type 0} (f : Timer → B) (t : Timer) where
+  count-keeps :
+      ((c : ℕ) (en ip : Bool) → f (withIp ip (withEn en (withCounter c t))) ≡ f t) → f (count t) ≡ f t
+  unfolding count
+  count-keeps kept =
+      chosen (λ b (x : Timer). f x ≡ f t) (countUnderflows t) _ _
+      (chosen (λ b (x : Timer). f (withIp true x) ≡ f t) (t .rs) _ _ (kept _ _ _) (kept _ _ _)) (kept _ _ _)
 
 -- A timer at one tick, and at T more: `m` is how often the timer before it underflows in those.
 module _ (ticks m : ℕ) where
   abbrev now : Bool → Timer → Timer
-  now b t = cond (counts b t) (count t) t
+  now b t = cond (countsNow b t) (count t) t
 
   -- what the direct form says of a timer after those ticks
   record Tick (b : Bool) (t : Timer) : Type 0 where
@@ -107,13 +115,15 @@ module _ (ticks m : ℕ) where
       (b : Bool) (k c l : ℕ) (rs ie ip ch : Bool) → (not ch || b) ≡ true →
       cond ch (more b m) (suc ticks) ≡ suc k → cond ch m ticks ≡ k →
       Tick b (enabled c l rs ie ip ch)
-  unfolding underflows
+  unfolding countUnderflows
   counting b k c l rs ie ip ch now-too these those =
-      let after : countsIn ticks m (count (enabled c l rs ie ip ch)) ≡ k = rw (count-keeps (λ (x : Timer). x .ch) (λ t c en ip. refl) (enabled c l rs ie ip ch)) those in
+      let t : Timer = enabled c l rs ie ip ch in
+      let after : countsIn ticks m (count t) ≡ k =
+      rw (count-keeps (λ (x : Timer). x .ch) t (λ c en ip. refl)) those in
       record {
         timer = rw (now-too, these, after) (counted-suc k c l rs ie ip ch _ refl);
         underflow = rw (now-too, these, after) (underflows-suc k c l rs ie ip ch _ refl);
-        enable = rw now-too (count-keeps (λ (x : Timer). x .ie) (λ t c en ip. refl) (enabled c l rs ie ip ch));
+        enable = rw now-too (count-keeps (λ (x : Timer). x .ie) t (λ c en ip. refl));
       }
 
   at-tick : (b : Bool) (t : Timer) → Tick b t
@@ -132,7 +142,8 @@ served-suc :
     (ticks m : ℕ) (b : Bool) (ts : List Timer) →
     served (suc ticks) (more b m) ts ≡ served ticks m (serve b ts)
 served-suc ticks m b [] = refl
-served-suc ticks m b (t ∷ ts) = rw (at-tick ticks m b t .timer, at-tick ticks m b t .underflow, served-suc ticks _ _ ts) refl
+served-suc ticks m b (t ∷ ts) =
+    rw (at-tick ticks m b t .timer, at-tick ticks m b t .underflow, served-suc ticks _ _ ts) refl
 
 pulses-more :
     (u ie ie' : Bool) (n : ℕ) → ie' ≡ ie →
@@ -143,7 +154,7 @@ pulses-more false ie ie' n e = rw (e, zero-add) refl
 
 servedPulses-suc :
     (ticks m : ℕ) (b : Bool) (ts : List Timer) →
-    servedPulses (suc ticks) (more b m) ts ≡ add (servePulses b ts) (servedPulses ticks m (serve b ts))
+    servedPulses (suc ticks) (more b m) ts ≡ addPulses (servePulses b ts) (servedPulses ticks m (serve b ts))
 servedPulses-suc ticks m b [] = refl
 servedPulses-suc ticks m b (t ∷ ts) =
     rw (
@@ -155,28 +166,27 @@ servedPulses-suc ticks m b (t ∷ ts) =
 
 -- Nothing happens in no time.
 module _ (t : Timer) where
-  none : countsIn 0 0 t ≡ 0
-  none = either (λ (k : ℕ). k) (t .ch) 0 0 0 refl refl
-
   counted-none : counted (countsIn 0 0 t) t ≡ t
   unfolding counted falls
   counted-none =
       rw (
-        none,
+        same (t .ch) zero,
         stands-none _ (countsLeft (t .reload)) (fallen t) (restarted t) (left-pos (t .counter)),
         stands-none _ 1 (fallen t) (stopped t) (left-pos (t .counter)),
+        same (t .rs) t,
       )
-      (either (λ (x : Timer). x) (t .en) _ t t (either (λ (x : Timer). x) (t .rs) t t t refl refl) refl)
+      (same (t .en) t)
 
   underflows-none : underflowsIn (countsIn 0 0 t) t ≡ 0
   unfolding underflowsIn once
   underflows-none =
       rw (
-        none,
+        same (t .ch) zero,
         ends-none (countsLeft (t .counter)) (countsLeft (t .reload)) (left-pos (t .counter)),
         lt-ltb 0 (countsLeft (t .counter)) (left-pos (t .counter)),
+        same (t .rs) zero,
       )
-      (either (λ (n : ℕ). n) (t .en) _ 0 0 (either (λ (n : ℕ). n) (t .rs) 0 0 0 refl refl) refl)
+      (same (t .en) zero)
 
 pub served-none : (ts : List Timer) → served 0 0 ts ≡ ts
 served-none [] = refl
@@ -185,9 +195,9 @@ served-none (t ∷ ts) = rw (counted-none t, underflows-none t, served-none ts) 
 pub servedPulses-none : (ts : List Timer) → servedPulses 0 0 ts ≡ noPulses ts
 servedPulses-none [] = refl
 servedPulses-none (t ∷ ts) =
-    rw (underflows-none t, servedPulses-none ts, either (λ (n : ℕ). n) (t .ie) 0 0 0 refl refl) refl
+    rw (underflows-none t, servedPulses-none ts, same (t .ie) zero) refl
 
-add-none : (ticks m : ℕ) (ts : List Timer) → add (noPulses ts) (servedPulses ticks m ts) ≡ servedPulses ticks m ts
+add-none : (ticks m : ℕ) (ts : List Timer) → addPulses (noPulses ts) (servedPulses ticks m ts) ≡ servedPulses ticks m ts
 add-none ticks m [] = refl
 add-none ticks m (t ∷ ts) = rw (zero-add, add-none ticks _ ts) refl
 
@@ -195,25 +205,29 @@ add-none ticks m (t ∷ ts) = rw (zero-add, add-none ticks _ ts) refl
 elapsed-suc :
     (n v r : ℕ) (df : Bool) (ts : List Timer) →
     (let u : Gptimer = record { scaler = v; sreload = r; df = df; timers = ts } in
-    cycleAnd u (elapsed n (cycle u)) ≡ elapsed (suc n) u)
-unfolding elapsed cycle pulses
+    cycleThen u (elapsed n (cycle u)) ≡ elapsed (suc n) u)
+unfolding elapsed cycle cyclePulses
 elapsed-suc n zero r df ts =
-    let R : ℕ = restart r in
+    let v : ℕ = valueAfterTick r in
+    let m : ℕ = ends (suc v) (suc v) n in
     rw (
-      ends-again (suc R) n (omega arith),
-      stands-again (suc R) n (omega arith) (λ (k : ℕ). 0 - k) (λ (k : ℕ). R - k),
-      servedPulses-suc (ends (suc R) (suc R) n) (ends (suc R) (suc R) n) true ts,
-      served-suc (ends (suc R) (suc R) n) (ends (suc R) (suc R) n) true ts,
+      ends-again (suc v) n (omega arith),
+      stands-again (suc v) n (omega arith) (λ (k : ℕ). 0 - k) (λ (k : ℕ). v - k),
+      servedPulses-suc m m true ts,
+      served-suc m m true ts,
     )
     refl
 elapsed-suc n (suc v) r df ts =
+    let p : ℕ = suc (valueAfterTick r) in
+    let m : ℕ = ends (suc v) p n in
     rw (
       ne-eqb (suc v) 0 (λ e. omega arith),
       suc-sub-suc v 0,
       sub-zero v,
-      ends-fall (suc v) (suc (restart r)) n,
-      stands-fall (suc v) (suc (restart r)) (λ (k : ℕ). suc v - k) (λ (k : ℕ). v - k) (λ (k : ℕ). restart r - k) n (suc-sub-suc v n),
-      add-none (ends (suc v) (suc (restart r)) n) (ends (suc v) (suc (restart r)) n) ts,
+      ends-fall (suc v) p n,
+      stands-fall (suc v) p (λ (k : ℕ). suc v - k) (λ (k : ℕ). v - k) (λ (k : ℕ). valueAfterTick r - k) n
+          (suc-sub-suc v n),
+      add-none m m ts,
     )
     refl
 
@@ -221,8 +235,9 @@ pub advance-elapsed : (n : ℕ) (u : Gptimer) → advance n u ≡ elapsed n u
 unfolding advance elapsed
 advance-elapsed zero u =
     rw (
-      ends-none (suc (u .scaler)) (suc (restart (u .sreload))) (omega arith),
-      stands-none (suc (u .scaler)) (suc (restart (u .sreload))) (λ (k : ℕ). u .scaler - k) (λ (k : ℕ). restart (u .sreload) - k) (omega arith),
+      ends-none (suc (u .scaler)) (period u) (omega arith),
+      stands-none (suc (u .scaler)) (period u) (λ (k : ℕ). u .scaler - k)
+          (λ (k : ℕ). valueAfterTick (u .sreload) - k) (omega arith),
       served-none (u .timers),
       servedPulses-none (u .timers),
       sub-zero (u .scaler),

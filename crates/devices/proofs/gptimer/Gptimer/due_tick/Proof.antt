@@ -1,6 +1,7 @@
 -- From a timer up its chain: the tick that is sought is that at which the timer before `at` underflows for the `due`-th
 -- time. Assumes nothing.
 use borrow.Author.Needs.{needs}
+use borrow.Author.Tests.{not-true, not-false}
 use Prim.Native.Nat.{_≤_, _<_}
 use mathlib.Core.Path.{_≡_}
 use Rattle.devices.specs.Gptimer.Direct.{dueTick}
@@ -19,5 +20,5 @@ pub due-tick-spec : {M : Type 1} → statement M
 due-tick-spec =
     tie.close
     (tie.spec Inv-loop μ-loop (λ c. search needs) (λ c. search needs) (λ c. search needs) (λ c. search needs)
-    (λ c κs. search needs) (λ c. search needs) (λ c. search (step-chained, step-later, needs))
-    (λ c. search step-free) (λ c. search step-none))
+    (λ c κs. search needs) (λ c. search (step-free, not-true)) (λ c. search needs)
+    (λ c. search (step-chained, step-later, not-false, needs)) (λ c. search step-none))

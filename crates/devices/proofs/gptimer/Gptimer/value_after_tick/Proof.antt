@@ -2,10 +2,10 @@
 use borrow.Author.Needs.{needs}
 use Rattle.devices.proofs.Cases.{cases}
 use native.Mathlib.Omega.{arith}
-use Rattle.devices.proofs.gptimer.Gptimer.restart.Statement.{statement}
-use Rattle.devices.proofs.gptimer.Gptimer.restart.Tie as tie
+use Rattle.devices.proofs.gptimer.Gptimer.value_after_tick.Statement.{statement}
+use Rattle.devices.proofs.gptimer.Gptimer.value_after_tick.Tie as tie
 
-pub restart-spec : {M : Type 1} → statement M
-restart-spec =
+pub value-after-tick-spec : {M : Type 1} → statement M
+value-after-tick-spec =
     tie.close
     (tie.spec (λ c. (search cases, omega arith)) (λ c. search needs) (λ c. (search cases, omega arith)))

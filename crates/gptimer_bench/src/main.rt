@@ -1,0 +1,135 @@
+// A million calls on the compiled timer unit, each on the unit that the one before returned, for `tools/bench` to time. The
+// first byte of standard input says which calls. The program writes the cycles and pulses of all calls and the counters of
+// timers 1 and 4 after them, so that none can be left out.
+use devices::gptimer::Elapsed;
+use devices::gptimer::Gptimer;
+use devices::gptimer::Timer;
+use libc::STDIN_FILENO;
+use libc::STDOUT_FILENO;
+
+const CALLS: u64 = 1_000_000;
+
+// What a call does.
+const NOTHING: u8 = 0;
+
+const ADVANCE: u8 = 1;
+
+const SKIP: u8 = 2;
+
+fn main() {
+    let mut input = io::buffer();
+    io::read_full(STDIN_FILENO, &mut input);
+    say(chosen(input[0]));
+}
+
+fn chosen(which: u8) -> Elapsed {
+    match which {
+        // Advances inside the prescaler's count; one in 65,536 ticks.
+        b'a' => calls(chain(0xFFFF), ADVANCE, 1),
+        // Advances of some ticks, and of the longest span, with four chained timers.
+        b'b' => calls(chain(3), ADVANCE, 1000),
+        b'c' => calls(chain(3), ADVANCE, u64::MAX),
+        // Skips to the next pulse of one of four timers, and of the last of a chain of four.
+        b'd' => calls(periodic(), SKIP, u64::MAX),
+        b'e' => calls(chain(3), SKIP, u64::MAX),
+        // The loop without a call, to be taken off the others' time.
+        _ => calls(chain(3), NOTHING, 0),
+    }
+}
+
+// Four timers that restart, each chained to the one before it; only the last has interrupts.
+fn chain(sreload: u16) -> Gptimer {
+    let mut unit = Gptimer::reset_state();
+    unit.sreload = sreload;
+    unit.timers = [
+        timer(2, true, false),
+        timer(3, true, false),
+        timer(5, true, false),
+        timer(7, true, true),
+    ];
+    unit
+}
+
+// Four timers that restart and interrupt, none chained.
+fn periodic() -> Gptimer {
+    let mut unit = Gptimer::reset_state();
+    unit.sreload = 3;
+    unit.timers = [
+        timer(200, false, true),
+        timer(300, false, true),
+        timer(500, false, true),
+        timer(700, false, true),
+    ];
+    unit
+}
+
+fn timer(reload: u32, ch: bool, ie: bool) -> Timer {
+    Timer {
+        counter: reload,
+        reload,
+        en: true,
+        rs: true,
+        ie,
+        ip: false,
+        ch,
+    }
+}
+
+fn unmoved(unit: Gptimer) -> Elapsed {
+    Elapsed {
+        cycles: 0,
+        pulses: [0; 4],
+        unit,
+    }
+}
+
+fn calls(start: Gptimer, what: u8, cycles: u64) -> Elapsed {
+    let mut unit = start;
+    let mut passed = 0;
+    let mut left = CALLS;
+    while 0 < left {
+        let span = call(unit, what, cycles);
+        unit = span.unit;
+        passed = std::num::wrapping_add_u64(passed, span.cycles);
+        left -= 1;
+    }
+    Elapsed {
+        cycles: passed,
+        pulses: [0; 4],
+        unit,
+    }
+}
+
+fn call(unit: Gptimer, what: u8, cycles: u64) -> Elapsed {
+    match what {
+        ADVANCE => unit.advance(cycles),
+        SKIP => unit.skip(cycles),
+        _ => unmoved(unit),
+    }
+}
+
+// The unit after a further span, with the pulses of all timers summed up as the first's.
+fn after(total: Elapsed, span: Elapsed) -> Elapsed {
+    let mut next = span;
+    next.cycles = std::num::wrapping_add_u64(total.cycles, span.cycles);
+    next.pulses[0] = std::num::wrapping_add_u64(
+        std::num::wrapping_add_u64(total.pulses[0], span.pulses[0]),
+        std::num::wrapping_add_u64(
+            span.pulses[1],
+            std::num::wrapping_add_u64(span.pulses[2], span.pulses[3]),
+        ),
+    );
+    next
+}
+
+fn say(total: Elapsed) {
+    number(total.cycles);
+    number(total.pulses[0]);
+    number(total.unit.read(Gptimer::STRIDE) as u64);
+    number(total.unit.read(4 * Gptimer::STRIDE) as u64);
+}
+
+fn number(n: u64) {
+    io::print_decimal(STDOUT_FILENO, n);
+    io::write_all(STDOUT_FILENO, b"\n");
+}
