@@ -66,11 +66,11 @@ oneLess : ℕ
 oneLess = 4294901759
 
 watchdog : gpt.skip largest gpt.resetState ≡ elapsed 4294901760 gpt.resetState
-unfolding largest endsAt onceAt countsLeft due dueTick
+unfolding largest gpt.valueAfterTick endsAt onceAt countsLeft due dueTick
 watchdog = skip-advance largest gpt.resetState refl (omega arith) ∙ advance-elapsed 4294901760 gpt.resetState
 
 watchdog-less : gpt.skip oneLess gpt.resetState ≡ elapsed 4294901759 gpt.resetState
-unfolding oneLess endsAt onceAt countsLeft due dueTick
+unfolding oneLess gpt.valueAfterTick endsAt onceAt countsLeft due dueTick
 watchdog-less = skip-advance oneLess gpt.resetState refl (omega arith) ∙ advance-elapsed 4294901759 gpt.resetState
 
 examples : List Example
@@ -108,6 +108,6 @@ examples =
 
 checked : map (λ (e : Example). e .given) examples ≡ map (λ (e : Example). e .said) examples
 unfolding examples eight read write offer wellFormed periodic chained pending gpt.read gpt.write gpt.advance gpt.skip
-    gpt.cycle gpt.cyclePulses gpt.count gpt.fall gpt.countUnderflows elapsed ends stands once countsLeft counted
+    gpt.valueAfterTick gpt.cycle gpt.cyclePulses gpt.count gpt.fall gpt.countUnderflows elapsed ends stands once countsLeft counted
     underflowsIn
 checked = rw (watchdog, watchdog-less, ← falls-wrap 65534 65535 1 refl (omega arith)) refl

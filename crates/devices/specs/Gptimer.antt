@@ -218,7 +218,7 @@ noPulses ts = map (λ (t : Timer). 0) ts
 
 -- "One cycle: if the prescaler value is 0 there is a tick, and the value becomes the reload, or 0xFFFF if the reload is
 -- 0. Otherwise it falls by 1."
-abbrev pub valueAfterTick : ℕ → ℕ
+unfoldable pub valueAfterTick : ℕ → ℕ
 valueAfterTick sreload = cond (eqb sreload 0) 0xFFFF sreload
 
 unfoldable pub cycle : Gptimer → Gptimer

@@ -9,7 +9,7 @@ use native.Mathlib.Numerals.{one-add}
 use borrow.Author.Tests.{lt-ltb, le-ltb}
 use Rattle.devices.specs.Cond.{same}
 use Rattle.devices.specs.Gptimer.{withCounter, withIp, withEn}
-use Rattle.devices.specs.Gptimer.Direct.{falls, countsLeft, stands, ends, once, counted, underflowsIn, pulsesOf, countsIn, countedTimer, servedTimer}
+use Rattle.devices.specs.Gptimer.Direct.{falls, countsLeft, atRest, stands, ends, once, counted, underflowsIn, pulsesOf, countsIn, countedTimer, servedTimer}
 use Rattle.devices.specs.Gptimer.Direct.Time.{falls-wrap}
 use Rattle.devices.specs.declared.gptimer.Timer.{Timer}
 use Rattle.devices.specs.declared.gptimer.Served.{Served}
@@ -51,7 +51,7 @@ module _ (k : ℕ) (t : Timer) where
 
   pub stopping :
       (f q : ℕ) → t .en ≡ true → t .rs ≡ false → f ≡ countsLeft (t .counter) → f ≤ k → q ≡ pulsesOf t 1 →
-      Counts 1 q (withIp true (withEn false (withCounter 0 t)))
+      Counts 1 q (withIp true (withEn false (withCounter atRest t)))
   unfolding counted underflowsIn stands once
   stopping f q on rs left l e =
       let past : ltb k (countsLeft (t .counter)) ≡ false = le-ltb k _ (rw (← left) l) in

@@ -51,8 +51,12 @@ fallen t k = withCounter (falls k (t .counter)) t
 abbrev pub restarted : Timer → ℕ → Timer
 restarted t k = withIp true (withCounter (falls k (t .reload)) t)
 
+-- where a one-shot comes to rest
+abbrev pub atRest : ℕ
+atRest = 0
+
 abbrev pub stopped : Timer → ℕ → Timer
-stopped t k = withIp true (withEn false (withCounter 0 t))
+stopped t k = withIp true (withEn false (withCounter atRest t))
 
 unfoldable pub counted : ℕ → Timer → Timer
 counted k t =

@@ -13,7 +13,7 @@ use Rattle.devices.specs.Cond.{chosen, same}
 use Rattle.devices.specs.Gptimer.{fall, countUnderflows, count, countsNow, underflowsNow, serve, servePulses}
 use Rattle.devices.specs.Gptimer.{withCounter, withEn, withIp, noPulses, addPulses, valueAfterTick}
 use Rattle.devices.specs.Gptimer.{cycle, cyclePulses, cycleThen, advance}
-use Rattle.devices.specs.Gptimer.Direct.{ends, once, stands, countsLeft, falls, fallen, restarted, stopped}
+use Rattle.devices.specs.Gptimer.Direct.{ends, once, stands, countsLeft, falls, fallen, restarted, stopped, atRest}
 use Rattle.devices.specs.Gptimer.Direct.{counted, underflowsIn, countsIn, served, servedPulses, period, elapsed}
 use Rattle.devices.specs.Gptimer.Direct.Countdown.{ends-none, ends-fall, ends-again}
 use Rattle.devices.specs.Gptimer.Direct.Countdown.{stands-none, stands-fall, stands-again, stands-past}
@@ -41,15 +41,27 @@ left-suc : (c : ℕ) → countsLeft (suc c) ≡ suc c
 unfolding countsLeft
 left-suc c = rw (ne-eqb (suc c) 0 (λ e. omega arith)) refl
 
-left-last : (c : ℕ) → eqb (fall c) 0 ≡ true → countsLeft c ≡ 1
-unfolding countsLeft fall
-left-last zero e = absurd (true≢false (sym e))
-left-last (suc c) e = let z : c ≡ 0 = eqb-true c 0 (rw (← fall-suc c) e) in rw z refl
+left-last : (t : Timer) → countUnderflows t ≡ true → countsLeft (t .counter) ≡ 1
+unfolding countUnderflows fall countsLeft
+left-last t e = by-counter (t .counter) e
+  where
+    by-counter : (c : ℕ) → eqb (fall c) 0 ≡ true → countsLeft c ≡ 1
+    by-counter zero e = absurd (true≢false (sym e))
+    by-counter (suc c) e = let z : c ≡ 0 = eqb-true c 0 (rw (← fall-suc c) e) in rw z refl
 
-left-falls : (c : ℕ) → eqb (fall c) 0 ≡ false → countsLeft c ≡ suc (countsLeft (fall c))
-unfolding countsLeft fall
-left-falls zero e = refl
-left-falls (suc c) e = let z : eqb c 0 ≡ false = rw (← fall-suc c) e in rw (left-suc c, fall-suc c, z) refl
+left-falls :
+    (t : Timer) → countUnderflows t ≡ false → countsLeft (t .counter) ≡ suc (countsLeft (fall (t .counter)))
+unfolding countUnderflows fall countsLeft
+left-falls t e = by-counter (t .counter) e
+  where
+    by-counter : (c : ℕ) → eqb (fall c) 0 ≡ false → countsLeft c ≡ suc (countsLeft (fall c))
+    by-counter zero e = refl
+    by-counter (suc c) e =
+        let z : eqb c 0 ≡ false = rw (← fall-suc c) e in rw (left-suc c, fall-suc c, z) refl
+
+rests : (t : Timer) → countUnderflows t ≡ true → fall (t .counter) ≡ atRest
+unfolding countUnderflows
+rests t e = eqb-true (fall (t .counter)) 0 e
 
 -- a wrapping subtraction is as many falls
 pub falls-wrap : (k c w : ℕ) → (w + k) % 2 ^ 32 ≡ c → w < 2 ^ 32 → w ≡ falls k c
@@ -66,28 +78,33 @@ abbrev enabled : ℕ → ℕ → Bool → Bool → Bool → Bool → Timer
 enabled c l rs ie ip ch = record { counter = c; reload = l; en = true; rs = rs; ie = ie; ip = ip; ch = ch }
 
 counted-suc :
-    (k c l : ℕ) (rs ie ip ch u : Bool) → eqb (fall c) 0 ≡ u →
+    (k c l : ℕ) (rs ie ip ch u : Bool) → countUnderflows (enabled c l rs ie ip ch) ≡ u →
     counted (suc k) (enabled c l rs ie ip ch) ≡ counted k (count (enabled c l rs ie ip ch))
-unfolding counted count countUnderflows falls
+unfolding counted count falls
 counted-suc k c l true ie ip ch true e =
-    rw (left-last c e, e) (stands-again (countsLeft l) k (left-pos l) _ _)
+    rw (left-last (enabled c l true ie ip ch) e, e) (stands-again (countsLeft l) k (left-pos l) _ _)
 counted-suc k c l false ie ip ch true e =
     let t : Timer = enabled c l false ie ip ch in
-    rw (left-last c e, e, stands-past 1 1 (fallen t) (stopped t) (suc k) (omega arith), eqb-true (fall c) 0 e) refl
+    rw (left-last t e, e, stands-past 1 1 (fallen t) (stopped t) (suc k) (omega arith), rests t e) refl
 counted-suc k c l true ie ip ch false e =
-    rw (e, left-falls c e) (stands-fall (countsLeft (fall c)) (countsLeft l) _ _ _ k refl)
+    rw (e, left-falls (enabled c l true ie ip ch) e)
+    (stands-fall (countsLeft (fall c)) (countsLeft l) _ _ _ k refl)
 counted-suc k c l false ie ip ch false e =
-    rw (e, left-falls c e) (stands-fall (countsLeft (fall c)) 1 _ _ _ k refl)
+    rw (e, left-falls (enabled c l false ie ip ch) e) (stands-fall (countsLeft (fall c)) 1 _ _ _ k refl)
 
 underflows-suc :
-    (k c l : ℕ) (rs ie ip ch u : Bool) → eqb (fall c) 0 ≡ u →
+    (k c l : ℕ) (rs ie ip ch u : Bool) → countUnderflows (enabled c l rs ie ip ch) ≡ u →
     underflowsIn (suc k) (enabled c l rs ie ip ch) ≡
     more u (underflowsIn k (count (enabled c l rs ie ip ch)))
-unfolding underflowsIn count countUnderflows once
-underflows-suc k c l true ie ip ch true e = rw (left-last c e, e) (ends-again (countsLeft l) k (left-pos l))
-underflows-suc k c l false ie ip ch true e = rw (left-last c e, e, le-ltb (suc k) 1 (omega arith)) refl
-underflows-suc k c l true ie ip ch false e = rw (e, left-falls c e) (ends-fall (countsLeft (fall c)) (countsLeft l) k)
-underflows-suc k c l false ie ip ch false e = rw (e, left-falls c e, leb·suc-suc (suc k) (countsLeft (fall c))) refl
+unfolding underflowsIn count once
+underflows-suc k c l true ie ip ch true e =
+    rw (left-last (enabled c l true ie ip ch) e, e) (ends-again (countsLeft l) k (left-pos l))
+underflows-suc k c l false ie ip ch true e =
+    rw (left-last (enabled c l false ie ip ch) e, e, le-ltb (suc k) 1 (omega arith)) refl
+underflows-suc k c l true ie ip ch false e =
+    rw (e, left-falls (enabled c l true ie ip ch) e) (ends-fall (countsLeft (fall c)) (countsLeft l) k)
+underflows-suc k c l false ie ip ch false e =
+    rw (e, left-falls (enabled c l false ie ip ch) e, leb·suc-suc (suc k) (countsLeft (fall c))) refl
 
 -- a count leaves CH and IE as they are
 module _ {B : Type 0} (f : Timer → B) (t : Timer) where
@@ -115,7 +132,6 @@ module _ (ticks m : ℕ) where
       (b : Bool) (k c l : ℕ) (rs ie ip ch : Bool) → (not ch || b) ≡ true →
       cond ch (more b m) (suc ticks) ≡ suc k → cond ch m ticks ≡ k →
       Tick b (enabled c l rs ie ip ch)
-  unfolding countUnderflows
   counting b k c l rs ie ip ch now-too these those =
       let t : Timer = enabled c l rs ie ip ch in
       let after : countsIn ticks m (count t) ≡ k =
