@@ -8,8 +8,7 @@ use lib.ListN.{getD}
 use Rattle.devices.specs.Apbuart.{Port, DATA, STATUS, CONTROL, wellFormed, read, write, offer, resetState}
 use Rattle.devices.specs.Gptimer as gpt
 use Rattle.devices.specs.Gptimer.{zeroTimer, resetTimer4}
-use Rattle.devices.specs.Gptimer.Direct.{elapsed, ends, stands, once, endsAt, onceAt, countsLeft, falls}
-use Rattle.devices.specs.Gptimer.Direct.{counted, underflowsIn, due, dueTick}
+use Rattle.devices.specs.Gptimer.Direct.{elapsed, stands, endsAt, onceAt, countsLeft, run, due, dueTick}
 use Rattle.devices.specs.Gptimer.Direct.Time.{falls-wrap, advance-elapsed}
 use Rattle.devices.specs.Gptimer.Direct.Due.{skip-advance}
 use Rattle.devices.specs.declared.gptimer.Gptimer.{Gptimer}
@@ -40,7 +39,9 @@ pulsesOf n e = getD (e .pulses) (n - 1) 0
 
 -- "Prescaler 0, reload 3; timer 1 counter and reload 2, control 0x0B; all else as after reset."
 periodic : ℕ → Gptimer
-periodic control = gpt.write 0x18 control (gpt.write 0x14 2 (gpt.write 0x10 2 (gpt.write 0x04 3 (gpt.write 0x00 0 gpt.resetState))))
+periodic control =
+    gpt.write 0x18 control (gpt.write 0x14 2 (gpt.write 0x10 2 (
+    gpt.write 0x04 3 (gpt.write 0x00 0 gpt.resetState))))
 
 -- "Same, timer 1 control 0x03, timer 2 counter and reload 3, control 0x2B."
 chained : Gptimer
@@ -108,6 +109,5 @@ examples =
 
 checked : map (λ (e : Example). e .given) examples ≡ map (λ (e : Example). e .said) examples
 unfolding examples eight read write offer wellFormed periodic chained pending gpt.read gpt.write gpt.advance gpt.skip
-    gpt.valueAfterTick gpt.cycle gpt.cyclePulses gpt.count gpt.fall gpt.countUnderflows elapsed ends stands once countsLeft counted
-    underflowsIn
+    gpt.valueAfterTick gpt.cycle gpt.cyclePulses gpt.count gpt.fall gpt.countUnderflows elapsed stands countsLeft run
 checked = rw (watchdog, watchdog-less, ← falls-wrap 65534 65535 1 refl (omega arith)) refl

@@ -1,9 +1,10 @@
-// The timer unit, GRLIB's GPTIMER: a prescaler and four timers, as a state by value. Its types leave no state ill formed, so
-// no call is refused. Each public call answers what `specs/Gptimer.antt` defines, whatever the unit and the arguments. Time is
-// not walked: a span is worked out by divisions (`specs/Gptimer/Direct.antt`), and a skip from the time of the next pulse.
+// The timer unit, GRLIB's GPTIMER: a prescaler and four timers, as a state by value. Its types leave no state ill formed,
+// so no call is refused. Each public call answers what `specs/Gptimer.antt` defines, whatever the unit and the arguments.
+// Time is not walked: a span is worked out by divisions (`specs/Gptimer/Direct.antt`), and a skip from the time of the
+// next pulse.
 ghost use mathlib.Core.Path.{_≡_};
 ghost use mathlib.Core.Bool.{cond, false};
-ghost use Prim.Native.Nat.{suc, _<_, _≤_, _%_, min};
+ghost use Prim.Native.Nat.{_<_, _≤_, min};
 ghost use Rattle.devices.specs.Word.{bit};
 ghost use Rattle.devices.specs.Gptimer as gpt;
 ghost use Rattle.devices.specs.Gptimer.Direct as direct;

@@ -1,6 +1,6 @@
 // Plays calls on the compiled timer unit and writes each with its answer. Standard input has one call a line, its numbers
-// in hexadecimal: `r OFFSET` reads, `w OFFSET VALUE` writes, `a CYCLES` advances, `s LIMIT` skips; a line that begins with #
-// says something and resets the unit.
+// in hexadecimal: `r OFFSET` reads, `w OFFSET VALUE` writes, `a CYCLES` advances, `s LIMIT` skips. A line that begins
+// with # says something and resets the unit.
 ghost use Prim.Native.Nat.{_≤_};
 use devices::gptimer::Elapsed;
 use devices::gptimer::Gptimer;

@@ -1,19 +1,20 @@
 -- What the code does with a span, and with the time of a pulse, is the direct form. Assumes nothing.
 use Prim.Native.Nat.{ℕ, zero, suc, _+_, _-_, _*_, _/_, _%_, _^_, _<_, _≤_, min}
-use mathlib.Core.Path.{_≡_, refl, ap, sym, _∙_}
-use mathlib.Core.Bool.{Bool, true, false, cond}
+use mathlib.Core.Path.{_≡_, refl, sym, _∙_}
+use mathlib.Core.Bool.{true, false}
 use mathlib.Core.List.{List, [], _∷_, map}
 use native.Mathlib.Omega.{arith}
-use native.Mathlib.Nat.{mod-lt, div-le-self, le-div-iff-mul-le, div-lt-iff-lt-mul}
+use native.Mathlib.Nat.{mod-lt, le-div-iff-mul-le, div-lt-iff-lt-mul}
 use native.Mathlib.Numerals.{add-one, one-add}
 use lib.ListN.{length, length-map}
 use borrow.Author.Tests.{lt-ltb, le-ltb}
 use Rattle.devices.specs.Cond.{chosen}
 use Rattle.devices.specs.Gptimer.{place, valueAfterTick, withScaler, withTimers, noPulses, advance, skip}
-use Rattle.devices.specs.Gptimer.Direct.{never, ends, stands, endsAt, onceAt, countsLeft, servedTimer, ticked, elapsed, due}
-use Rattle.devices.specs.Gptimer.Direct.{dueTick, pulseTick, firstTick, tickCycle}
+use Rattle.devices.specs.Gptimer.Direct.{stands, endsAt, onceAt, countsLeft, servedTimer, ticked, elapsed, due}
+use Rattle.devices.specs.Gptimer.Direct.{dueTick, firstTick, tickCycle}
 use Rattle.devices.specs.Gptimer.Direct.Time.{served-none, servedPulses-none, advance-elapsed}
 use Rattle.devices.specs.Gptimer.Direct.Due.{four, skip-advance, due-later, first-later}
+use Rattle.devices.proofs.gptimer.Counting.{underflows-fit}
 use Rattle.devices.specs.declared.gptimer.Timer.{Timer}
 use Rattle.devices.specs.declared.gptimer.Served.{Served}
 use Rattle.devices.specs.declared.gptimer.Gptimer.{Gptimer}
@@ -49,7 +50,7 @@ pub before-tick :
     _≡_ {A = Elapsed}
     (record { cycles = n; pulses = 0 ∷ 0 ∷ 0 ∷ 0 ∷ []; unit = withScaler (u .scaler - n) u })
     (advance n u)
-unfolding elapsed ends stands
+unfolding elapsed stands
 before-tick u n whole l =
     rw (
       advance-elapsed n u,
@@ -65,7 +66,7 @@ module _ (x : Elapsed) (u : Gptimer) (whole : length (u .timers) ≡ 4) where
       (n r : ℕ) → r ≡ valueAfterTick (u .sreload) → u .scaler < n →
       x ≡ ticked n (1 + (n - (u .scaler + 1)) / (r + 1)) (withScaler (r - (n - (u .scaler + 1)) % (r + 1)) u) →
       x ≡ advance n u
-  unfolding elapsed ends stands
+  unfolding elapsed stands
   past-tick n r er l e =
       rw (advance-elapsed n u, le-ltb n (suc (u .scaler)) (omega arith), ← er)
       (simp (add-one, one-add) at e)
@@ -80,7 +81,7 @@ skip-by x u limit d n whole small due earlier e =
 
 -- the ticks fit into the code's words, and so does a remainder by one more than r
 pub ticks-fit : (n v p : ℕ) → v < n → n < 2 ^ 64 → 1 + (n - (v + 1)) / p < 2 ^ 64
-ticks-fit n v p l small = omega (arith, div-le-self (n - (v + 1)) p)
+ticks-fit n v p l small = underflows-fit n (v + 1) p (omega arith) (omega arith) small
 
 pub rest-within : (x r : ℕ) → x % (r + 1) ≤ r
 rest-within x r = let l : x % (r + 1) < r + 1 = mod-lt x (omega arith) in omega arith
@@ -115,10 +116,7 @@ due-first t j f on one e l =
 pub end-of : (r f g p q j : ℕ) → f ≡ g → p ≡ q → r ≡ endsAt f p j → r ≡ endsAt g q j
 end-of r f g p q j e h i = rw (← e, ← h) i
 
--- the first pulse of all, from each timer's
-pub min-of : (r a b x y : ℕ) → a ≡ x → b ≡ y → r ≡ min a b → r ≡ min x y
-min-of r a b x y e f g = rw (← e, ← f) g
-
+-- the first pulse of all
 pub first-after : (ts : List Timer) (m : ℕ) → length ts ≡ 4 → m ≡ firstTick ts → 0 < m
 first-after ts m whole e = rw e (first-later ts whole)
 

@@ -1,10 +1,10 @@
--- The direct form: what many counts, ticks or cycles do, worked out by a division. It is what the code computes; no
--- contract of a public call cites it, and nothing here is trusted: `Direct.Time` and `Direct.Due` prove it of single cycles.
+-- The direct form: what many counts, ticks or cycles do, worked out by a division. It is what the code computes. No
+-- contract of a public call cites it, and none of it is trusted: `Time` and `Due` below prove it of single cycles.
 pub mod Countdown
 pub mod Time
 pub mod Due
 use Prim.Native.Nat.{ℕ, zero, suc, _+_, _-_, _*_, _/_, _%_, _^_, min}
-use mathlib.Core.Bool.{Bool, false, true, cond}
+use mathlib.Core.Bool.{false, true, cond}
 use mathlib.Core.List.{List, [], _∷_}
 use lib.Dec.{eqb, ltb}
 use Rattle.devices.specs.Gptimer.{fall, valueAfterTick, withScaler, withTimers, withCounter, withEn, withIp, place}
@@ -13,17 +13,17 @@ use Rattle.devices.specs.declared.gptimer.Gptimer.{Gptimer}
 use Rattle.devices.specs.declared.gptimer.Elapsed.{Elapsed}
 use Rattle.devices.specs.declared.gptimer.Served.{Served}
 
--- A countdown that ends at its d-th count, and then at every p-th, in k counts: how often it ends, and where it stands,
--- `first` counts from its start or `again` from its last end.
-unfoldable pub ends : ℕ → ℕ → ℕ → ℕ
-ends d p k = cond (ltb k d) 0 (suc ((k - d) / p))
+-- A countdown that ends at its d-th count and then at every p-th, in k counts: what it comes to. `first` has its counts,
+-- where it has not ended; `again` the periods since its first end and the counts since its last one.
+unfoldable pub stands : {A : Type 0} → ℕ → ℕ → (ℕ → A) → (ℕ → ℕ → A) → ℕ → A
+stands d p first again k = cond (ltb k d) (first k) (again ((k - d) / p) ((k - d) % p))
 
-unfoldable pub stands : {A : Type 0} → ℕ → ℕ → (ℕ → A) → (ℕ → A) → ℕ → A
-stands d p first again k = cond (ltb k d) (first k) (again ((k - d) % p))
+-- how often it ends, and how often one that stops at its first end does
+abbrev pub ends : ℕ → ℕ → ℕ → ℕ
+ends d p k = stands d p (λ i. 0) (λ q i. suc q) k
 
--- one that ends at its d-th count and stops there
-unfoldable pub once : ℕ → ℕ → ℕ
-once d k = cond (ltb k d) 0 1
+abbrev pub once : ℕ → ℕ → ℕ
+once d k = stands d 1 (λ i. 0) (λ q i. 1) k
 
 -- The count at which each ends for the j-th time. Where that is no 64-bit number, or never, `never` stands for it.
 abbrev pub never : ℕ
@@ -44,35 +44,34 @@ unfoldable pub falls : ℕ → ℕ → ℕ
 falls zero counter = counter
 falls (suc k) counter = falls k (fall counter)
 
--- a timer k counts on, and k counts after an underflow
-abbrev pub fallen : Timer → ℕ → Timer
-fallen t k = withCounter (falls k (t .counter)) t
+-- A timer in k counts: how often it underflows, and the timer after them.
+pub record Run : Type 0 where
+  pub underflows : ℕ
+  pub timer : Timer
 
-abbrev pub restarted : Timer → ℕ → Timer
-restarted t k = withIp true (withCounter (falls k (t .reload)) t)
+abbrev pub idle : Timer → Run
+idle t = record { underflows = 0; timer = t }
+
+abbrev pub fallen : Timer → ℕ → Run
+fallen t k = record { underflows = 0; timer = withCounter (falls k (t .counter)) t }
+
+abbrev pub restarted : Timer → ℕ → ℕ → Run
+restarted t q k = record { underflows = suc q; timer = withIp true (withCounter (falls k (t .reload)) t) }
 
 -- where a one-shot comes to rest
 abbrev pub atRest : ℕ
 atRest = 0
 
-abbrev pub stopped : Timer → ℕ → Timer
-stopped t k = withIp true (withEn false (withCounter atRest t))
+abbrev pub stopped : Timer → ℕ → ℕ → Run
+stopped t q k = record { underflows = 1; timer = withIp true (withEn false (withCounter atRest t)) }
 
-unfoldable pub counted : ℕ → Timer → Timer
-counted k t =
+unfoldable pub run : ℕ → Timer → Run
+run k t =
     cond (t .en)
     (cond (t .rs)
     (stands (countsLeft (t .counter)) (countsLeft (t .reload)) (fallen t) (restarted t) k)
     (stands (countsLeft (t .counter)) 1 (fallen t) (stopped t) k))
-    t
-
-unfoldable pub underflowsIn : ℕ → Timer → ℕ
-underflowsIn k t =
-    cond (t .en)
-    (cond (t .rs)
-    (ends (countsLeft (t .counter)) (countsLeft (t .reload)) k)
-    (once (countsLeft (t .counter)) k))
-    0
+    (idle t)
 
 abbrev pub pulsesOf : Timer → ℕ → ℕ
 pulsesOf t underflows = cond (t .ie) underflows 0
@@ -81,10 +80,10 @@ pulsesOf t underflows = cond (t .ie) underflows 0
 abbrev pub countsIn : ℕ → ℕ → Timer → ℕ
 countsIn ticks before t = cond (t .ch) before ticks
 
--- all that some counts, and some ticks, do to a timer
+-- what the code answers for some counts, and for some ticks
 abbrev pub countedTimer : ℕ → Timer → Served
 countedTimer k t =
-    record { underflows = underflowsIn k t; pulses = pulsesOf t (underflowsIn k t); timer = counted k t }
+    record { underflows = run k t .underflows; pulses = pulsesOf t (run k t .underflows); timer = run k t .timer }
 
 abbrev pub servedTimer : ℕ → ℕ → Timer → Served
 servedTimer ticks before t = countedTimer (countsIn ticks before t) t
@@ -92,13 +91,13 @@ servedTimer ticks before t = countedTimer (countsIn ticks before t) t
 abbrev pub served : ℕ → ℕ → List Timer → List Timer
 served ticks before [] = []
 served ticks before (t ∷ ts) =
-    counted (countsIn ticks before t) t ∷ served ticks (underflowsIn (countsIn ticks before t) t) ts
+    run (countsIn ticks before t) t .timer ∷ served ticks (run (countsIn ticks before t) t .underflows) ts
 
 abbrev pub servedPulses : ℕ → ℕ → List Timer → List ℕ
 servedPulses ticks before [] = []
 servedPulses ticks before (t ∷ ts) =
-    pulsesOf t (underflowsIn (countsIn ticks before t) t) ∷
-    servedPulses ticks (underflowsIn (countsIn ticks before t) t) ts
+    pulsesOf t (run (countsIn ticks before t) t .underflows) ∷
+    servedPulses ticks (run (countsIn ticks before t) t .underflows) ts
 
 -- the prescaler in n cycles
 abbrev pub period : Gptimer → ℕ
@@ -109,7 +108,7 @@ ticksIn n u = ends (suc (u .scaler)) (period u) n
 
 abbrev pub scalerAfter : ℕ → Gptimer → ℕ
 scalerAfter n u =
-    stands (suc (u .scaler)) (period u) (λ (k : ℕ). u .scaler - k) (λ (k : ℕ). valueAfterTick (u .sreload) - k) n
+    stands (suc (u .scaler)) (period u) (λ (k : ℕ). u .scaler - k) (λ q (k : ℕ). valueAfterTick (u .sreload) - k) n
 
 abbrev pub ticked : ℕ → ℕ → Gptimer → Elapsed
 ticked cycles ticks u =

@@ -34,9 +34,9 @@ unfolding advance
 advance-cycles zero u = refl
 advance-cycles (suc n) u = ap suc (advance-cycles n (cycle u))
 
--- "An idle skip takes a limit and passes the fewest cycles, one or more, whose last has a pulse; if there is none within the
--- limit it passes the limit." No fewer cycles have a pulse, and those below the limit have one: it is in the last of them.
--- (`advance 0` has none, so they are one or more.)
+-- "An idle skip takes a limit and passes the fewest cycles, one or more, whose last has a pulse; if there is none within
+-- the limit it passes the limit." No fewer cycles have a pulse, and those below the limit have one: it is in the last of
+-- them. (`advance 0` has none, so they are one or more.)
 pub record Least (limit : ℕ) (u : Gptimer) (e : Elapsed) : Type 0 where
   pub advances : e ≡ advance (e .cycles) u
   pub within : e .cycles ≤ limit
@@ -54,7 +54,9 @@ skip-least zero u =
     }
 skip-least (suc n) u = by-test (anyPulse (cyclePulses u)) refl (skip-least n (cycle u))
   where
-    first : (b : Bool) (k : ℕ) → anyPulse (cyclePulses u) ≡ b → anyPulse (advance (suc k) u .pulses) ≡ (b || anyPulse (advance k (cycle u) .pulses))
+    first :
+        (b : Bool) (k : ℕ) → anyPulse (cyclePulses u) ≡ b →
+        anyPulse (advance (suc k) u .pulses) ≡ (b || anyPulse (advance k (cycle u) .pulses))
     first b k e = rw (any-add, e) refl
 
     by-test :
@@ -75,7 +77,9 @@ skip-least (suc n) u = by-test (anyPulse (cyclePulses u)) refl (skip-least n (cy
           pulse = λ l. first false (skip n (cycle u) .cycles) e ∙ r .pulse (omega arith);
         }
       where
-        quiet-then : Least n (cycle u) (skip n (cycle u)) → (k : ℕ) → k < suc (skip n (cycle u) .cycles) → anyPulse (advance k u .pulses) ≡ false
+        quiet-then :
+            Least n (cycle u) (skip n (cycle u)) → (k : ℕ) → k < suc (skip n (cycle u) .cycles) →
+            anyPulse (advance k u .pulses) ≡ false
         quiet-then r zero l = any-none (u .timers)
         quiet-then r (suc k) l = first false k e ∙ r .quiet k (omega arith)
 
@@ -144,8 +148,8 @@ cycle-ip i u =
     chosen (λ b (x : Gptimer). ipAt i x ≡ (ipAt i u || (b && getD (serveUnderflows true (u .timers)) i false)))
     (eqb (u .scaler) 0) _ _ (serve-ip i true (u .timers)) (sym (or-false (ipAt i u)))
 
--- IP is set after a span exactly if it was set before or the timer underflowed in the span. (A skip is such a span: it is an
--- advance by the cycles that it passes, `Least .advances`.)
+-- IP is set after a span exactly if it was set before or the timer underflowed in the span. (A skip is such a span: it is
+-- an advance by the cycles that it passes, `Least .advances`.)
 pub advance-ip : (n i : ℕ) (u : Gptimer) → ipAt i (advance n u .unit) ≡ (ipAt i u || underflowsWithin n i u)
 unfolding advance underflowsWithin
 advance-ip zero i u = sym (or-false (ipAt i u))

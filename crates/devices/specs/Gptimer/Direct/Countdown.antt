@@ -1,58 +1,58 @@
--- A countdown in one count more. Assumes nothing.
-use Prim.Native.Nat.{ℕ, zero, suc, _+_, _-_, _*_, _/_, _%_, _<_, _≤_, min}
-use mathlib.Core.Path.{_≡_, refl, ap, _∙_}
-use mathlib.Core.Bool.{Bool, true, false, cond, _||_}
-use native.Mathlib.Nat.{div-eq-of-lt, div-eq-sub-div, mod-eq-of-lt, mod-eq-sub-mod, le-div-iff-mul-le, div-le-self, suc-sub-suc, sub-zero, le-trans}
-use native.Mathlib.Numerals.{add-one, sub-one}
+-- A countdown in one count more, and when it ends. Assumes nothing.
+use Prim.Native.Nat.{ℕ, suc, _+_, _-_, _*_, _/_, _%_, _<_, _≤_, min}
+use mathlib.Core.Path.{_≡_, refl, _∙_}
+use mathlib.Core.Bool.{cond, _||_}
+use native.Mathlib.Nat.{div-eq-of-lt, div-eq-sub-div, mod-eq-of-lt, mod-eq-sub-mod, le-div-iff-mul-le, div-le-self}
+use native.Mathlib.Nat.{suc-sub-suc, sub-zero, le-trans}
+use native.Mathlib.Numerals.{add-one}
 use native.Mathlib.Decide.{decLt, ℕ-discrete}
 use native.Mathlib.Omega.{arith}
 use lib.Dec.{leb, ltb, eqb, leb·suc-suc}
 use borrow.Author.Tests.{lt-ltb, le-ltb, le-leb, lt-leb, eq-eqb, ne-eqb}
-use Rattle.devices.specs.Gptimer.Direct.{ends, stands, endsAt, once, onceAt, never}
+use Rattle.devices.specs.Cond.{chosen}
+use Rattle.devices.specs.Gptimer.Direct.{stands, ends, once, endsAt, onceAt, never}
 
--- before its first count
-pub ends-none : (d p : ℕ) → 0 < d → ends d p 0 ≡ 0
-unfolding ends
-ends-none d p pos = rw (lt-ltb 0 d pos) refl
-
-pub stands-none : {A : Type 0} (d p : ℕ) (f g : ℕ → A) → 0 < d → stands d p f g 0 ≡ f 0
-unfolding stands
-stands-none d p f g pos = rw (lt-ltb 0 d pos) refl
-
--- a count that does not end it
-pub ends-fall : (d p k : ℕ) → ends (suc d) p (suc k) ≡ ends d p k
-unfolding ends
-ends-fall d p k = rw (leb·suc-suc (suc k) d, suc-sub-suc k d) refl
-
-pub stands-fall :
-    {A : Type 0} (d p : ℕ) (f f' g : ℕ → A) (k : ℕ) → f (suc k) ≡ f' k →
-    stands (suc d) p f g (suc k) ≡ stands d p f' g k
-unfolding stands
-stands-fall d p f f' g k e = rw (leb·suc-suc (suc k) d, suc-sub-suc k d, e) refl
-
--- the count that ends it
-module _ (p k : ℕ) (pos : 0 < p) where
-  pub ends-again : ends 1 p (suc k) ≡ suc (ends p p k)
-  unfolding ends
-  ends-again =
-      rw (le-ltb (suc k) 1 (omega arith), suc-sub-suc k 0, sub-zero k)
-      (elim (decLt k p) [
-        | yes l ↦ rw (lt-ltb k p l, div-eq-of-lt l) refl
-        | no l ↦ rw (le-ltb k p (omega arith), div-eq-sub-div {n = k} pos (omega arith), add-one) refl
-      ])
-
-  pub stands-again : {A : Type 0} (f g : ℕ → A) → stands 1 p f g (suc k) ≡ stands p p g g k
+module _ {A : Type 0} where
+  -- before its first count
+  pub stands-none : (d p : ℕ) (f : ℕ → A) (g : ℕ → ℕ → A) → 0 < d → stands d p f g 0 ≡ f 0
   unfolding stands
-  stands-again f g =
+  stands-none d p f g pos = rw (lt-ltb 0 d pos) refl
+
+  -- a count that does not end it
+  pub stands-fall :
+      (d p : ℕ) (f f' : ℕ → A) (g : ℕ → ℕ → A) (k : ℕ) → f (suc k) ≡ f' k →
+      stands (suc d) p f g (suc k) ≡ stands d p f' g k
+  unfolding stands
+  stands-fall d p f f' g k e = rw (leb·suc-suc (suc k) d, suc-sub-suc k d, e) refl
+
+  -- the count that ends it
+  pub stands-again :
+      (p : ℕ) (f : ℕ → A) (g : ℕ → ℕ → A) (k : ℕ) → 0 < p →
+      stands 1 p f g (suc k) ≡ stands p p (g 0) (λ q. g (suc q)) k
+  unfolding stands
+  stands-again p f g k pos =
       rw (le-ltb (suc k) 1 (omega arith), suc-sub-suc k 0, sub-zero k)
       (elim (decLt k p) [
-        | yes l ↦ rw (lt-ltb k p l, mod-eq-of-lt l) refl
-        | no l ↦ rw (le-ltb k p (omega arith)) (ap g (mod-eq-sub-mod (omega arith)))
+        | yes l ↦ rw (lt-ltb k p l, div-eq-of-lt l, mod-eq-of-lt l) refl
+        | no l ↦
+            let m : k % p ≡ (k - p) % p = mod-eq-sub-mod (omega arith) in
+            rw (le-ltb k p (omega arith), div-eq-sub-div {n = k} pos (omega arith), add-one, m) refl
       ])
 
-pub stands-past : {A : Type 0} (d p : ℕ) (f g : ℕ → A) (k : ℕ) → d ≤ k → stands d p f g k ≡ g ((k - d) % p)
-unfolding stands
-stands-past d p f g k l = rw (le-ltb k d l) refl
+  -- once it has ended
+  pub stands-past :
+      (d p : ℕ) (f : ℕ → A) (g : ℕ → ℕ → A) (k : ℕ) → d ≤ k →
+      stands d p f g k ≡ g ((k - d) / p) ((k - d) % p)
+  unfolding stands
+  stands-past d p f g k l = rw (le-ltb k d l) refl
+
+  -- what is read off it
+  pub stands-map :
+      {B : Type 0} (h : A → B) (d p : ℕ) (f : ℕ → A) (g : ℕ → ℕ → A) (k : ℕ) →
+      h (stands d p f g k) ≡ stands d p (λ i. h (f i)) (λ q i. h (g q i)) k
+  unfolding stands
+  stands-map h d p f g k =
+      chosen (λ b x. h x ≡ cond b (h (f k)) (h (g ((k - d) / p) ((k - d) % p)))) (ltb k d) _ _ refl refl
 
 -- Something happens m times in k steps, the j-th time at step `time j`; at `never` stands what is not seen in fewer steps.
 pub record Due (k m : ℕ) (time : ℕ → ℕ) : Type 0 where
@@ -101,7 +101,7 @@ module _ (k d p : ℕ) (small : k < never) where
 
   module _ (pos : 0 < d) where
     pub ends-due : 0 < p → Due k (ends d p k) (endsAt d p)
-    unfolding ends endsAt
+    unfolding stands endsAt
     ends-due again =
         elim (decLt k d) [
           | yes l ↦
@@ -126,7 +126,7 @@ module _ (k d p : ℕ) (small : k < never) where
 
     -- its first end is due as that of the other, and it has no second
     pub once-due : Due k (once d k) (onceAt d)
-    unfolding once onceAt
+    unfolding stands onceAt
     once-due =
         elim (decLt k d) [
           | yes l ↦

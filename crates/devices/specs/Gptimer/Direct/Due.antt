@@ -1,20 +1,21 @@
 -- When a timer underflows: it has done so j times exactly from the time on at which it does so for the j-th time. These
 -- laws hold of times below `never`. Assumes nothing.
-use Prim.Native.Nat.{ℕ, zero, suc, _+_, _-_, _<_, _≤_, min}
+use Prim.Native.Nat.{ℕ, zero, suc, _-_, _<_, _≤_, min}
 use mathlib.Core.Path.{_≡_, refl, ap, sym, _∙_}
-use mathlib.Core.Bool.{Bool, true, false, cond, _||_, or-false, or-assoc}
+use mathlib.Core.Bool.{Bool, true, false, cond, or-false, or-assoc}
 use mathlib.Core.List.{List, [], _∷_}
-use native.Mathlib.Decide.{decLt, ℕ-discrete}
 use native.Mathlib.Omega.{arith}
 use native.Mathlib.Numerals.{add-one}
 use native.Mathlib.Nat.{lt-of-le-of-lt, lt-of-lt-of-le}
-use lib.Dec.{leb, ltb, eqb}
+use lib.Dec.{leb, ltb}
 use lib.ListN.{length}
 use borrow.Author.Tests.{le-leb, lt-leb, leb-false}
 use Rattle.devices.specs.Gptimer.{place, anyPulse, advance, skip}
-use Rattle.devices.specs.Gptimer.Direct.{never, ends, endsAt, once, onceAt, countsLeft, underflowsIn, countsIn, pulsesOf, servedPulses}
-use Rattle.devices.specs.Gptimer.Direct.{due, dueTick, pulseTick, firstTick, tickCycle, ticksIn, period, elapsed}
+use Rattle.devices.specs.Gptimer.Direct.{stands, never, endsAt, onceAt, countsLeft, Run, idle, fallen, restarted}
+use Rattle.devices.specs.Gptimer.Direct.{stopped, run, countsIn, pulsesOf, servedPulses, ticksIn, period, elapsed}
+use Rattle.devices.specs.Gptimer.Direct.{due, dueTick, pulseTick, firstTick, tickCycle}
 use Rattle.devices.specs.Gptimer.Direct.Countdown.{Due, due-through, not-due, ends-due, once-due, earlier}
+use Rattle.devices.specs.Gptimer.Direct.Countdown.{stands-map}
 use Rattle.devices.specs.Gptimer.Direct.Time.{left-pos, servedPulses-none, advance-elapsed}
 use Rattle.devices.specs.Gptimer.Pulses.{any-none}
 use Rattle.devices.specs.Gptimer.Laws.{advance-cycles, skip-least, least-unique}
@@ -22,26 +23,32 @@ use Rattle.devices.specs.declared.gptimer.Timer.{Timer}
 use Rattle.devices.specs.declared.gptimer.Gptimer.{Gptimer}
 
 -- A timer's underflows in its own counts.
-counts-due : (k : ℕ) (t : Timer) → k < never → Due k (underflowsIn k t) (λ j. due j t)
-unfolding underflowsIn due
+pub counts-due : (k : ℕ) (t : Timer) → k < never → Due k (run k t .underflows) (λ j. due j t)
+unfolding run due
 counts-due k t small =
     by-flags (countsLeft (t .counter)) (countsLeft (t .reload)) (left-pos (t .counter)) (left-pos (t .reload))
     (t .en) (t .rs)
   where
     by-flags :
         (d p : ℕ) → 0 < d → 0 < p → (en rs : Bool) →
-        Due k (cond en (cond rs (ends d p k) (once d k)) 0) (λ j. cond en (cond rs (endsAt d p j) (onceAt d j)) never)
+        Due k
+        (cond en
+        (cond rs (stands d p (fallen t) (restarted t) k) (stands d 1 (fallen t) (stopped t) k))
+        (idle t) .underflows)
+        (λ j. cond en (cond rs (endsAt d p j) (onceAt d j)) never)
     by-flags d p first again false rs = not-due k d p small
-    by-flags d p first again true true = ends-due k d p small first again
-    by-flags d p first again true false = once-due k d p small first
+    by-flags d p first again true true =
+        rw (stands-map (λ (r : Run). r .underflows) d p (fallen t) (restarted t) k) (ends-due k d p small first again)
+    by-flags d p first again true false =
+        rw (stands-map (λ (r : Run). r .underflows) d 1 (fallen t) (stopped t) k) (once-due k d p small first)
 
 -- The underflows of timer n in some ticks; before timer 1 stands the tick itself.
-underflowsAt : ℕ → List Timer → ℕ → ℕ
+unfoldable pub underflowsAt : ℕ → List Timer → ℕ → ℕ
 underflowsAt ticks ts zero = ticks
 underflowsAt ticks ts (suc n) =
-    underflowsIn (countsIn ticks (underflowsAt ticks ts n) (place ts n)) (place ts n)
+    run (countsIn ticks (underflowsAt ticks ts n) (place ts n)) (place ts n) .underflows
 
-ticks-due : (ticks n : ℕ) (ts : List Timer) → ticks < never → Due ticks (underflowsAt ticks ts n) (dueTick ts n)
+pub ticks-due : (ticks n : ℕ) (ts : List Timer) → ticks < never → Due ticks (underflowsAt ticks ts n) (dueTick ts n)
 unfolding underflowsAt dueTick
 ticks-due ticks zero ts small =
     record { few = omega arith; later = λ j l. l; by = λ j l. refl }
@@ -50,10 +57,22 @@ ticks-due ticks (suc n) ts small =
   where
     by-chain :
         (m : ℕ) (before : ℕ → ℕ) → Due ticks m before → (t : Timer) (ch : Bool) →
-        Due ticks (underflowsIn (cond ch m ticks) t) (λ j. cond ch (before (due j t)) (due j t))
+        Due ticks (run (cond ch m ticks) t .underflows) (λ j. cond ch (before (due j t)) (due j t))
     by-chain m before b t true =
         due-through before (λ j. due j t) b (counts-due m t (lt-of-le-of-lt (b .few) small))
     by-chain m before b t false = counts-due ticks t small
+
+-- The ticks in some cycles, and so the underflows of timer n in them: its j-th is in cycle `tickCycle u (dueTick ts n j)`.
+pub prescaler-due : (k : ℕ) (u : Gptimer) → k < never → Due k (ticksIn k u) (tickCycle u)
+prescaler-due k u small = ends-due k (suc (u .scaler)) (period u) small (omega arith) (omega arith)
+
+pub underflows-due :
+    (k n : ℕ) (u : Gptimer) → k < never →
+    Due k (underflowsAt (ticksIn k u) (u .timers) n) (λ j. tickCycle u (dueTick (u .timers) n j))
+underflows-due k n u small =
+    let ticks : Due k (ticksIn k u) (tickCycle u) = prescaler-due k u small in
+    due-through (tickCycle u) (dueTick (u .timers) n) ticks
+    (ticks-due (ticksIn k u) n (u .timers) (lt-of-le-of-lt (ticks .few) small))
 
 -- The first pulse of the timer at place n, and of all four.
 pulse-due :
@@ -114,8 +133,7 @@ cycles-due :
     anyPulse (advance n u .pulses) ≡ leb (tickCycle u (firstTick (u .timers))) n
 unfolding elapsed
 cycles-due n u four small =
-    let ticks : Due n (ticksIn n u) (tickCycle u) =
-    ends-due n (suc (u .scaler)) (period u) small (omega arith) (omega arith) in
+    let ticks : Due n (ticksIn n u) (tickCycle u) = prescaler-due n u small in
     rw (advance-elapsed n u)
     (first-due (ticksIn n u) (u .timers) four (lt-of-le-of-lt (ticks .few) small) ∙
     ticks .by (firstTick (u .timers)) (first-later (u .timers) four))
@@ -144,6 +162,3 @@ skip-advance limit u four small =
 -- A time that is due is a step from 1 on.
 pub due-later : (j : ℕ) (t : Timer) → 0 < j → 0 < due j t
 due-later j t l = counts-due 0 t (omega arith) .later j l
-
-pub due-tick-later : (j n : ℕ) (ts : List Timer) → 0 < j → 0 < dueTick ts n j
-due-tick-later j n ts l = ticks-due 0 n ts (omega arith) .later j l

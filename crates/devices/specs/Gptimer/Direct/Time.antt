@@ -7,16 +7,15 @@ use native.Mathlib.Decide.{ℕ-discrete}
 use native.Mathlib.Omega.{arith}
 use native.Mathlib.Nat.{zero-add, suc-sub-suc, sub-zero}
 use native.Mathlib.Numerals.{one-add}
-use lib.Dec.{eqb, leb·suc-suc}
-use borrow.Author.Tests.{lt-ltb, le-ltb, eq-eqb, ne-eqb, eqb-true}
+use lib.Dec.{eqb}
+use borrow.Author.Tests.{eq-eqb, ne-eqb, eqb-true}
 use Rattle.devices.specs.Cond.{chosen, same}
 use Rattle.devices.specs.Gptimer.{fall, countUnderflows, count, countsNow, underflowsNow, serve, servePulses}
 use Rattle.devices.specs.Gptimer.{withCounter, withEn, withIp, noPulses, addPulses, valueAfterTick}
 use Rattle.devices.specs.Gptimer.{cycle, cyclePulses, cycleThen, advance}
-use Rattle.devices.specs.Gptimer.Direct.{ends, once, stands, countsLeft, falls, fallen, restarted, stopped, atRest}
-use Rattle.devices.specs.Gptimer.Direct.{counted, underflowsIn, countsIn, served, servedPulses, period, elapsed}
-use Rattle.devices.specs.Gptimer.Direct.Countdown.{ends-none, ends-fall, ends-again}
-use Rattle.devices.specs.Gptimer.Direct.Countdown.{stands-none, stands-fall, stands-again, stands-past}
+use Rattle.devices.specs.Gptimer.Direct.{ends, countsLeft, falls, atRest, Run, idle, fallen, restarted, stopped, run}
+use Rattle.devices.specs.Gptimer.Direct.{countsIn, served, servedPulses, period, elapsed}
+use Rattle.devices.specs.Gptimer.Direct.Countdown.{stands-none, stands-fall, stands-again, stands-past, stands-map}
 use Rattle.devices.specs.declared.gptimer.Timer.{Timer}
 use Rattle.devices.specs.declared.gptimer.Gptimer.{Gptimer}
 
@@ -77,34 +76,26 @@ falls-wrap (suc k) c w e l =
 abbrev enabled : ℕ → ℕ → Bool → Bool → Bool → Bool → Timer
 enabled c l rs ie ip ch = record { counter = c; reload = l; en = true; rs = rs; ie = ie; ip = ip; ch = ch }
 
-counted-suc :
+abbrev bump : Bool → Run → Run
+bump u r = record { underflows = more u (r .underflows); timer = r .timer }
+
+run-suc :
     (k c l : ℕ) (rs ie ip ch u : Bool) → countUnderflows (enabled c l rs ie ip ch) ≡ u →
-    counted (suc k) (enabled c l rs ie ip ch) ≡ counted k (count (enabled c l rs ie ip ch))
-unfolding counted count falls
-counted-suc k c l true ie ip ch true e =
-    rw (left-last (enabled c l true ie ip ch) e, e) (stands-again (countsLeft l) k (left-pos l) _ _)
-counted-suc k c l false ie ip ch true e =
+    run (suc k) (enabled c l rs ie ip ch) ≡ bump u (run k (count (enabled c l rs ie ip ch)))
+unfolding run count falls
+run-suc k c l true ie ip ch true e =
+    let t : Timer = enabled c l true ie ip ch in
+    rw (left-last t e, e, stands-again (countsLeft l) (fallen t) (restarted t) k (left-pos l))
+    (sym (stands-map (bump true) (countsLeft l) (countsLeft l) _ _ k))
+run-suc k c l false ie ip ch true e =
     let t : Timer = enabled c l false ie ip ch in
     rw (left-last t e, e, stands-past 1 1 (fallen t) (stopped t) (suc k) (omega arith), rests t e) refl
-counted-suc k c l true ie ip ch false e =
-    rw (e, left-falls (enabled c l true ie ip ch) e)
-    (stands-fall (countsLeft (fall c)) (countsLeft l) _ _ _ k refl)
-counted-suc k c l false ie ip ch false e =
-    rw (e, left-falls (enabled c l false ie ip ch) e) (stands-fall (countsLeft (fall c)) 1 _ _ _ k refl)
-
-underflows-suc :
-    (k c l : ℕ) (rs ie ip ch u : Bool) → countUnderflows (enabled c l rs ie ip ch) ≡ u →
-    underflowsIn (suc k) (enabled c l rs ie ip ch) ≡
-    more u (underflowsIn k (count (enabled c l rs ie ip ch)))
-unfolding underflowsIn count once
-underflows-suc k c l true ie ip ch true e =
-    rw (left-last (enabled c l true ie ip ch) e, e) (ends-again (countsLeft l) k (left-pos l))
-underflows-suc k c l false ie ip ch true e =
-    rw (left-last (enabled c l false ie ip ch) e, e, le-ltb (suc k) 1 (omega arith)) refl
-underflows-suc k c l true ie ip ch false e =
-    rw (e, left-falls (enabled c l true ie ip ch) e) (ends-fall (countsLeft (fall c)) (countsLeft l) k)
-underflows-suc k c l false ie ip ch false e =
-    rw (e, left-falls (enabled c l false ie ip ch) e, leb·suc-suc (suc k) (countsLeft (fall c))) refl
+run-suc k c l true ie ip ch false e =
+    let t : Timer = enabled c l true ie ip ch in
+    rw (e, left-falls t e) (stands-fall (countsLeft (fall c)) (countsLeft l) (fallen t) _ (restarted t) k refl)
+run-suc k c l false ie ip ch false e =
+    let t : Timer = enabled c l false ie ip ch in
+    rw (e, left-falls t e) (stands-fall (countsLeft (fall c)) 1 (fallen t) _ (stopped t) k refl)
 
 -- a count leaves CH and IE as they are
 module _ {B : Type 0} (f : Timer → B) (t : Timer) where
@@ -122,10 +113,9 @@ module _ (ticks m : ℕ) where
 
   -- what the direct form says of a timer after those ticks
   record Tick (b : Bool) (t : Timer) : Type 0 where
-    timer : counted (countsIn (suc ticks) (more b m) t) t ≡ counted (countsIn ticks m (now b t)) (now b t)
-    underflow :
-        underflowsIn (countsIn (suc ticks) (more b m) t) t ≡
-        more (underflowsNow b t) (underflowsIn (countsIn ticks m (now b t)) (now b t))
+    runs :
+        run (countsIn (suc ticks) (more b m) t) t ≡
+        bump (underflowsNow b t) (run (countsIn ticks m (now b t)) (now b t))
     enable : now b t .ie ≡ t .ie
 
   counting :
@@ -137,20 +127,19 @@ module _ (ticks m : ℕ) where
       let after : countsIn ticks m (count t) ≡ k =
       rw (count-keeps (λ (x : Timer). x .ch) t (λ c en ip. refl)) those in
       record {
-        timer = rw (now-too, these, after) (counted-suc k c l rs ie ip ch _ refl);
-        underflow = rw (now-too, these, after) (underflows-suc k c l rs ie ip ch _ refl);
+        runs = rw (now-too, these, after) (run-suc k c l rs ie ip ch _ refl);
         enable = rw now-too (count-keeps (λ (x : Timer). x .ie) t (λ c en ip. refl));
       }
 
   at-tick : (b : Bool) (t : Timer) → Tick b t
-  unfolding counted underflowsIn
+  unfolding run
   at-tick b t = by-flags b (t .counter) (t .reload) (t .en) (t .rs) (t .ie) (t .ip) (t .ch)
     where
       by-flags :
           (b : Bool) (c l : ℕ) (en rs ie ip ch : Bool) →
           Tick b (record { counter = c; reload = l; en = en; rs = rs; ie = ie; ip = ip; ch = ch })
-      by-flags b c l false rs ie ip ch = record { timer = refl; underflow = refl; enable = refl }
-      by-flags false c l true rs ie ip true = record { timer = refl; underflow = refl; enable = refl }
+      by-flags b c l false rs ie ip ch = record { runs = refl; enable = refl }
+      by-flags false c l true rs ie ip true = record { runs = refl; enable = refl }
       by-flags true c l true rs ie ip true = counting true m c l rs ie ip true refl refl refl
       by-flags b c l true rs ie ip false = counting b ticks c l rs ie ip false refl refl refl
 
@@ -158,8 +147,7 @@ served-suc :
     (ticks m : ℕ) (b : Bool) (ts : List Timer) →
     served (suc ticks) (more b m) ts ≡ served ticks m (serve b ts)
 served-suc ticks m b [] = refl
-served-suc ticks m b (t ∷ ts) =
-    rw (at-tick ticks m b t .timer, at-tick ticks m b t .underflow, served-suc ticks _ _ ts) refl
+served-suc ticks m b (t ∷ ts) = rw (at-tick ticks m b t .runs, served-suc ticks _ _ ts) refl
 
 pulses-more :
     (u ie ie' : Bool) (n : ℕ) → ie' ≡ ie →
@@ -174,44 +162,32 @@ servedPulses-suc :
 servedPulses-suc ticks m b [] = refl
 servedPulses-suc ticks m b (t ∷ ts) =
     rw (
-      at-tick ticks m b t .underflow,
+      at-tick ticks m b t .runs,
       pulses-more (underflowsNow b t) (t .ie) _ _ (at-tick ticks m b t .enable),
       servedPulses-suc ticks _ _ ts,
     )
     refl
 
 -- Nothing happens in no time.
-module _ (t : Timer) where
-  counted-none : counted (countsIn 0 0 t) t ≡ t
-  unfolding counted falls
-  counted-none =
-      rw (
-        same (t .ch) zero,
-        stands-none _ (countsLeft (t .reload)) (fallen t) (restarted t) (left-pos (t .counter)),
-        stands-none _ 1 (fallen t) (stopped t) (left-pos (t .counter)),
-        same (t .rs) t,
-      )
-      (same (t .en) t)
-
-  underflows-none : underflowsIn (countsIn 0 0 t) t ≡ 0
-  unfolding underflowsIn once
-  underflows-none =
-      rw (
-        same (t .ch) zero,
-        ends-none (countsLeft (t .counter)) (countsLeft (t .reload)) (left-pos (t .counter)),
-        lt-ltb 0 (countsLeft (t .counter)) (left-pos (t .counter)),
-        same (t .rs) zero,
-      )
-      (same (t .en) zero)
+run-none : (t : Timer) → run (countsIn 0 0 t) t ≡ idle t
+unfolding run falls
+run-none t =
+    rw (
+      same (t .ch) zero,
+      stands-none _ (countsLeft (t .reload)) (fallen t) (restarted t) (left-pos (t .counter)),
+      stands-none _ 1 (fallen t) (stopped t) (left-pos (t .counter)),
+      same (t .rs) (idle t),
+    )
+    (same (t .en) (idle t))
 
 pub served-none : (ts : List Timer) → served 0 0 ts ≡ ts
 served-none [] = refl
-served-none (t ∷ ts) = rw (counted-none t, underflows-none t, served-none ts) refl
+served-none (t ∷ ts) = rw (run-none t, served-none ts) refl
 
 pub servedPulses-none : (ts : List Timer) → servedPulses 0 0 ts ≡ noPulses ts
 servedPulses-none [] = refl
 servedPulses-none (t ∷ ts) =
-    rw (underflows-none t, servedPulses-none ts, same (t .ie) zero) refl
+    rw (run-none t, servedPulses-none ts, same (t .ie) zero) refl
 
 add-none : (ticks m : ℕ) (ts : List Timer) → addPulses (noPulses ts) (servedPulses ticks m ts) ≡ servedPulses ticks m ts
 add-none ticks m [] = refl
@@ -227,8 +203,9 @@ elapsed-suc n zero r df ts =
     let v : ℕ = valueAfterTick r in
     let m : ℕ = ends (suc v) (suc v) n in
     rw (
-      ends-again (suc v) n (omega arith),
-      stands-again (suc v) n (omega arith) (λ (k : ℕ). 0 - k) (λ (k : ℕ). v - k),
+      stands-again (suc v) (λ (k : ℕ). 0) (λ q (k : ℕ). suc q) n (omega arith),
+      ← stands-map suc (suc v) (suc v) (λ (k : ℕ). 0) (λ q (k : ℕ). suc q) n,
+      stands-again (suc v) (λ (k : ℕ). 0 - k) (λ q (k : ℕ). v - k) n (omega arith),
       servedPulses-suc m m true ts,
       served-suc m m true ts,
     )
@@ -240,8 +217,8 @@ elapsed-suc n (suc v) r df ts =
       ne-eqb (suc v) 0 (λ e. omega arith),
       suc-sub-suc v 0,
       sub-zero v,
-      ends-fall (suc v) p n,
-      stands-fall (suc v) p (λ (k : ℕ). suc v - k) (λ (k : ℕ). v - k) (λ (k : ℕ). valueAfterTick r - k) n
+      stands-fall (suc v) p (λ (k : ℕ). 0) (λ (k : ℕ). 0) (λ q (k : ℕ). suc q) n refl,
+      stands-fall (suc v) p (λ (k : ℕ). suc v - k) (λ (k : ℕ). v - k) (λ q (k : ℕ). valueAfterTick r - k) n
           (suc-sub-suc v n),
       add-none m m ts,
     )
@@ -251,9 +228,9 @@ pub advance-elapsed : (n : ℕ) (u : Gptimer) → advance n u ≡ elapsed n u
 unfolding advance elapsed
 advance-elapsed zero u =
     rw (
-      ends-none (suc (u .scaler)) (period u) (omega arith),
+      stands-none (suc (u .scaler)) (period u) (λ (k : ℕ). 0) (λ q (k : ℕ). suc q) (omega arith),
       stands-none (suc (u .scaler)) (period u) (λ (k : ℕ). u .scaler - k)
-          (λ (k : ℕ). valueAfterTick (u .sreload) - k) (omega arith),
+          (λ q (k : ℕ). valueAfterTick (u .sreload) - k) (omega arith),
       served-none (u .timers),
       servedPulses-none (u .timers),
       sub-zero (u .scaler),

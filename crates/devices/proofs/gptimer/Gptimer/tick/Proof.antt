@@ -13,7 +13,8 @@ returns c =
     let second = third .before .before in
     let first = second .before .before in
     let start = first .before .before in
-    let whole : length (start .args .t1 .timers) ≡ 4 = length-of _ (start .args .t1 .timers) 4 (start .good .0 .1 .1 .1 .1 .1 .0 .1 .0 .1) in
+    let array = start .good .0 .1 .1 .1 .1 .1 .0 in
+    let whole : length (start .args .t1 .timers) ≡ 4 = length-of _ (start .args .t1 .timers) 4 (array .1 .0 .1) in
     ticks-by _ _ (start .args .t1) _ _ _ _ whole (first .serve .ensures)
     (second .serve2 .ensures) (third .serve3 .ensures) (fourth .serve4 .ensures)
 
