@@ -34,8 +34,8 @@ eight : List ℕ
 eight = 1 ∷ 2 ∷ 3 ∷ 4 ∷ 5 ∷ 6 ∷ 7 ∷ 8 ∷ []
 
 -- the pulses of timer n in a span
-abbrev pulsesOf : ℕ → Elapsed → ℕ
-pulsesOf n e = getD (e .pulses) (n - 1) 0
+abbrev pulsesIn : ℕ → Elapsed → ℕ
+pulsesIn n e = getD (e .pulses) (n - 1) 0
 
 -- "Prescaler 0, reload 3; timer 1 counter and reload 2, control 0x0B; all else as after reset."
 periodic : ℕ → Gptimer
@@ -66,28 +66,28 @@ largest = 2 ^ 64 - 1
 oneLess : ℕ
 oneLess = 4294901759
 
-watchdog : gpt.skip largest gpt.resetState ≡ elapsed 4294901760 gpt.resetState
+from-reset : gpt.skip largest gpt.resetState ≡ elapsed 4294901760 gpt.resetState
 unfolding largest gpt.valueAfterTick endsAt onceAt countsLeft due dueTick
-watchdog = skip-advance largest gpt.resetState refl (omega arith) ∙ advance-elapsed 4294901760 gpt.resetState
+from-reset = skip-advance largest gpt.resetState refl (omega arith) ∙ advance-elapsed 4294901760 gpt.resetState
 
-watchdog-less : gpt.skip oneLess gpt.resetState ≡ elapsed 4294901759 gpt.resetState
+from-reset-less : gpt.skip oneLess gpt.resetState ≡ elapsed 4294901759 gpt.resetState
 unfolding oneLess gpt.valueAfterTick endsAt onceAt countsLeft due dueTick
-watchdog-less = skip-advance oneLess gpt.resetState refl (omega arith) ∙ advance-elapsed 4294901759 gpt.resetState
+from-reset-less = skip-advance oneLess gpt.resetState refl (omega arith) ∙ advance-elapsed 4294901759 gpt.resetState
 
 examples : List Example
 examples =
     -- "From reset, skip with the largest limit passes 4294901760; timer 4 pulses once, counter 0, control 0x18. One cycle
     -- less: counter 1, control 0x09."
     record { given = gpt.skip largest gpt.resetState .cycles; said = 4294901760 } ∷
-    record { given = pulsesOf 4 (gpt.skip largest gpt.resetState); said = 1 } ∷
+    record { given = pulsesIn 4 (gpt.skip largest gpt.resetState); said = 1 } ∷
     record { given = gpt.read 0x40 (gpt.skip largest gpt.resetState .unit); said = 0 } ∷
     record { given = gpt.read 0x48 (gpt.skip largest gpt.resetState .unit); said = 0x18 } ∷
     record { given = gpt.read 0x40 (gpt.skip oneLess gpt.resetState .unit); said = 1 } ∷
     record { given = gpt.read 0x48 (gpt.skip oneLess gpt.resetState .unit); said = 0x09 } ∷
     -- "Advance 12: one pulse, counter 1." "Advance 13: two, counter 2."
-    record { given = pulsesOf 1 (gpt.advance 12 (periodic 0x0B)); said = 1 } ∷
+    record { given = pulsesIn 1 (gpt.advance 12 (periodic 0x0B)); said = 1 } ∷
     record { given = gpt.read 0x10 (gpt.advance 12 (periodic 0x0B) .unit); said = 1 } ∷
-    record { given = pulsesOf 1 (gpt.advance 13 (periodic 0x0B)); said = 2 } ∷
+    record { given = pulsesIn 1 (gpt.advance 13 (periodic 0x0B)); said = 2 } ∷
     record { given = gpt.read 0x10 (gpt.advance 13 (periodic 0x0B) .unit); said = 2 } ∷
     -- "Skip 100 passes 21, timer 2 control 0x3B." "Skip 20 passes 20, no pulse."
     record { given = gpt.skip 100 chained .cycles; said = 21 } ∷
@@ -110,4 +110,4 @@ examples =
 checked : map (λ (e : Example). e .given) examples ≡ map (λ (e : Example). e .said) examples
 unfolding examples eight read write offer wellFormed periodic chained pending gpt.read gpt.write gpt.advance gpt.skip
     gpt.valueAfterTick gpt.cycle gpt.cyclePulses gpt.count gpt.fall gpt.countUnderflows elapsed stands countsLeft run
-checked = rw (watchdog, watchdog-less, ← falls-wrap 65534 65535 1 refl (omega arith)) refl
+checked = rw (from-reset, from-reset-less, ← falls-wrap 65534 65535 1 refl (omega arith)) refl

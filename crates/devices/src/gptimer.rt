@@ -147,10 +147,11 @@ impl Timer {
         self.rs = value / Self::RS % 2 == 1;
         self.ie = value / Self::IE % 2 == 1;
         self.ch = value / Self::CH % 2 == 1;
-        self.clear(value).load(value)
+        self.clear_pending(value).load_counter(value)
     }
 
-    fn clear(mut self, value: u32) -> Self
+    // A written 1 clears IP, a 0 keeps it.
+    fn clear_pending(mut self, value: u32) -> Self
         ensures { λ r. ⌜ r ≡ gpt.withIp (cond (bit gpt.IP value) false (self .ip)) self ⌝ }
     {
         if value / Self::IP % 2 == 1 {
@@ -160,7 +161,8 @@ impl Timer {
         self
     }
 
-    fn load(mut self, value: u32) -> Self
+    // A written 1 copies the reload to the counter.
+    fn load_counter(mut self, value: u32) -> Self
         ensures { λ r. ⌜ r ≡ gpt.withCounter (cond (bit gpt.LD value) (self .reload) (self .counter)) self ⌝ }
     {
         if value / Self::LD % 2 == 1 {
@@ -232,7 +234,7 @@ impl Timer {
         }
     }
 
-    // The count at which the timer underflows for the j-th time.
+    // The count at which the timer underflows for the j-th time; u64::MAX where it does not, or not before then.
     fn due(self, j: u64) -> u64
         requires { ⌜ 0 < j ⌝ }
         ensures { λ r. ⌜ r ≡ direct.due j self ⌝ }
@@ -403,7 +405,8 @@ impl Gptimer {
         self.advance(earlier(self.next_pulse(), limit))
     }
 
-    // The cycle of the next pulse, counted from 1; u64::MAX where there is none before then.
+    // The cycle of the next pulse. Times count from 1; here and below u64::MAX stands for one that never comes, or not
+    // before then.
     fn next_pulse(self) -> u64
         ensures { λ r. ⌜ r ≡ direct.tickCycle self (direct.firstTick (self .timers)) ⌝ }
     {
@@ -414,7 +417,7 @@ impl Gptimer {
         )
     }
 
-    // The tick of the next pulse, counted from 1.
+    // The tick of the next pulse.
     fn first_tick(self) -> u64
         ensures { λ r. ⌜ r ≡ direct.firstTick (self .timers) ⌝ }
     {
@@ -424,13 +427,13 @@ impl Gptimer {
         )
     }
 
-    // The tick of the first pulse of the timer at place n, counted from 1.
-    fn pulse_tick(self, n: usize) -> u64
-        requires { ⌜ n < 4 ⌝ }
-        ensures { λ r. ⌜ r ≡ direct.pulseTick (self .timers) n ⌝ }
+    // The tick of the first pulse of the timer at a place: timer n stands at place n - 1.
+    fn pulse_tick(self, place: usize) -> u64
+        requires { ⌜ place < 4 ⌝ }
+        ensures { λ r. ⌜ r ≡ direct.pulseTick (self .timers) place ⌝ }
     {
-        if self.timers[n].ie {
-            return self.due_tick(n + 1, 1);
+        if self.timers[place].ie {
+            return self.due_tick(place + 1, 1);
         }
         u64::MAX
     }

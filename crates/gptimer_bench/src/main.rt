@@ -1,6 +1,6 @@
 // A million calls on the compiled timer unit, each on the unit that the one before returned, for `tools/bench` to time. The
-// first byte of standard input says which calls. The program writes the cycles and pulses of all calls and the counters of
-// timers 1 and 4 after them, so that none can be left out.
+// first byte of standard input says which calls. The program writes the cycles of all of them and the counters of timers 1
+// and 4 after them, so that none can be left out.
 use devices::gptimer::Elapsed;
 use devices::gptimer::Gptimer;
 use devices::gptimer::Timer;
@@ -32,7 +32,7 @@ fn chosen(which: u8) -> Elapsed {
         // Skips to the next pulse of one of four timers, and of the last of a chain of four.
         b'd' => calls(periodic(), SKIP, u64::MAX),
         b'e' => calls(chain(3), SKIP, u64::MAX),
-        // The loop without a call, to be taken off the others' time.
+        // Calls that only hand the unit back, to be taken off the others' time.
         _ => calls(chain(3), NOTHING, 0),
     }
 }
@@ -108,23 +108,8 @@ fn call(unit: Gptimer, what: u8, cycles: u64) -> Elapsed {
     }
 }
 
-// The unit after a further span, with the pulses of all timers summed up as the first's.
-fn after(total: Elapsed, span: Elapsed) -> Elapsed {
-    let mut next = span;
-    next.cycles = std::num::wrapping_add_u64(total.cycles, span.cycles);
-    next.pulses[0] = std::num::wrapping_add_u64(
-        std::num::wrapping_add_u64(total.pulses[0], span.pulses[0]),
-        std::num::wrapping_add_u64(
-            span.pulses[1],
-            std::num::wrapping_add_u64(span.pulses[2], span.pulses[3]),
-        ),
-    );
-    next
-}
-
 fn say(total: Elapsed) {
     number(total.cycles);
-    number(total.pulses[0]);
     number(total.unit.read(Gptimer::STRIDE) as u64);
     number(total.unit.read(4 * Gptimer::STRIDE) as u64);
 }

@@ -1,19 +1,27 @@
-// Holds advances and skips of the compiled timer unit against single cycles of it: on many small machines, and after each
-// of some cycles, `advance` and `skip` from the start must answer what as many advances of one cycle come to. It writes how
-// many machines and spans were compared and how many differed.
+// Holds advances and skips of the compiled timer unit against single cycles of it: on many machines, and after each of
+// some cycles, `advance` and `skip` from the start must answer what as many advances of one cycle come to. It writes how
+// many machines were compared and how many answers differed.
 use devices::gptimer::Elapsed;
 use devices::gptimer::Gptimer;
 use devices::gptimer::Timer;
 use libc::STDOUT_FILENO;
 
-// Each pair of flags of timers 1 and 2 occurs 60 times, with the rest different each time.
+// The sets of machines. SMALL has every setting of flags: each pair of settings of timers 1 and 2 occurs 60 times, with
+// the rest different each time.
 const SMALL: u32 = 61_440;
 
-const CYCLES: u32 = 24;
-// The first of these machines again, past two ticks of a prescaler whose reload is 0.
+const SMALL_CYCLES: u32 = 24;
+// CHAINS has four timers that restart, each chained to the one before it: every setting of IE, and every mixture of
+// counters and reloads 1 and 2.
+const CHAINS: u32 = 4_096;
+
+const CHAINS_CYCLES: u32 = 80;
+// FAR has some machines of SMALL again, past the ticks of a prescaler whose reload is 0.
 const FAR: u32 = 64;
 
 const FAR_CYCLES: u32 = 140_000;
+
+const FAR_STRIDE: u32 = 947;
 
 // The slow run so far: what was passed up to now, and up to the first pulse.
 struct Slow {
@@ -22,20 +30,18 @@ struct Slow {
 }
 
 fn main() {
-    let small = compare(SMALL, 1, CYCLES);
-    let far = compare(FAR, FAR_CYCLES, FAR_CYCLES);
-    say(b"machines ", SMALL + FAR);
-    say(b"advances and skips ", 2 * (SMALL * CYCLES + FAR));
-    say(b"differences ", sum(small, far));
+    say(b"small machines ", SMALL, compare(SMALL, 1, SMALL_CYCLES));
+    say(b"chains ", CHAINS, compare(CHAINS, 1, CHAINS_CYCLES));
+    say(b"long spans ", FAR, compare(FAR, FAR_CYCLES, FAR_CYCLES));
 }
 
-// Compares machines at each cycle from `from` to `to`. How many answers differed.
-fn compare(machines: u32, from: u32, to: u32) -> u32 {
+// Compares the machines of a set at each cycle from `from` to `to`. How many answers differed.
+fn compare(set: u32, from: u32, to: u32) -> u32 {
     let mut differences = 0;
-    let mut i = machines;
+    let mut i = set;
     while 0 < i {
         i -= 1;
-        differences = sum(differences, compare_machine(machine(i), from, to));
+        differences = sum(differences, compare_machine(machine(set, i), from, to));
     }
     differences
 }
@@ -52,6 +58,15 @@ fn compare_machine(start: Gptimer, from: u32, to: u32) -> u32 {
         }
     }
     differences
+}
+
+// The i-th machine of a set.
+fn machine(set: u32, i: u32) -> Gptimer {
+    match set {
+        CHAINS => chain(i),
+        FAR => small(i % FAR * FAR_STRIDE),
+        _ => small(i),
+    }
 }
 
 fn still(unit: Gptimer) -> Slow {
@@ -138,8 +153,8 @@ fn same_timer(s: Timer, t: Timer) -> bool {
         && s.ch == t.ch
 }
 
-// The i-th machine: every flag, small counters and reloads, 0 among them.
-fn machine(i: u32) -> Gptimer {
+// Small counters and reloads, 0 among them.
+fn small(i: u32) -> Gptimer {
     let one = timer(i % 32, i % 3, i % 7 % 4);
     let two = timer(i / 32 % 32, i % 5 % 4, i % 11 % 4);
     let three = timer(i % 37 % 32, i % 19 % 3, i % 23 % 4);
@@ -152,6 +167,25 @@ fn machine(i: u32) -> Gptimer {
     }
 }
 
+fn chain(i: u32) -> Gptimer {
+    let one = link(i % 8);
+    let two = link(i / 8 % 8);
+    let three = link(i / 64 % 8);
+    let four = link(i / 512 % 8);
+    Gptimer {
+        scaler: 0,
+        sreload: 1,
+        df: false,
+        timers: [one, two, three, four],
+    }
+}
+
+// EN, RS and CH, and by the bits of n: IE, a counter and a reload of 2, not 1.
+fn link(n: u32) -> Timer {
+    timer(19 + n % 2 * 4, 1 + n / 2 % 2, 1 + n / 4 % 2)
+}
+
+// A timer with the flags EN, RS, IE, IP and CH in the bits of a number.
 fn timer(flags: u32, counter: u32, reload: u32) -> Timer {
     Timer {
         counter,
@@ -168,8 +202,10 @@ fn sum(a: u32, b: u32) -> u32 {
     std::num::wrapping_add_u32(a, b)
 }
 
-fn say(what: &[u8], n: u32) {
+fn say(what: &[u8], machines: u32, differences: u32) {
     io::write_all(STDOUT_FILENO, what);
-    io::print_decimal(STDOUT_FILENO, n as u64);
+    io::print_decimal(STDOUT_FILENO, machines as u64);
+    io::write_all(STDOUT_FILENO, b", differences ");
+    io::print_decimal(STDOUT_FILENO, differences as u64);
     io::write_all(STDOUT_FILENO, b"\n");
 }

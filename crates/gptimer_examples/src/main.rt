@@ -1,6 +1,6 @@
-// Plays calls on the compiled timer unit and writes each with its answer. Standard input has one call a line, its numbers
-// in hexadecimal: `r OFFSET` reads, `w OFFSET VALUE` writes, `a CYCLES` advances, `s LIMIT` skips. A line that begins
-// with # says something and resets the unit.
+// Plays calls on the compiled timer unit and writes each with its answer. Standard input, of at most 4096 bytes, has one
+// call a line, its numbers in hexadecimal: `r OFFSET` reads, `w OFFSET VALUE` writes, `a CYCLES` advances, `s LIMIT` skips.
+// A line that begins with # says something and resets the unit; any other line is answered with a question mark.
 ghost use Prim.Native.Nat.{_≤_};
 use devices::gptimer::Elapsed;
 use devices::gptimer::Gptimer;
@@ -36,6 +36,7 @@ fn play(input: &[u8; 4096], count: usize)
             line = line.read(byte);
         }
     }
+    call(unit, line);
 }
 
 fn begin() -> Line {
@@ -57,7 +58,9 @@ impl Line {
             self.last = 0;
             return self;
         }
-        self.last = self.last % 0x1000_0000_0000_0000 * 16 + digit(byte);
+        if b'0' <= byte {
+            self.last = self.last % 0x1000_0000_0000_0000 * 16 + digit(byte);
+        }
         self
     }
 }
@@ -65,8 +68,8 @@ impl Line {
 fn digit(byte: u8) -> u64
     ensures { λ r. ⌜ r ≤ 15 ⌝ }
 {
-    if b'a' <= byte {
-        return (byte - b'a') as u64 % 6 + 10;
+    if b'A' <= byte {
+        return (byte as u64 % 32 + 9) % 16;
     }
     byte as u64 % 16
 }
@@ -78,12 +81,19 @@ fn call(unit: Gptimer, line: Line) -> Gptimer {
         b'w' => write(unit, word(line.before), word(line.last)),
         b'a' => advance(unit, line.last),
         b's' => skip(unit, line.last),
-        _ => reset(),
+        b'#' => reset(),
+        0 => unit,
+        _ => unknown(unit),
     }
 }
 
 fn word(n: u64) -> u32 {
     (n % 0x1_0000_0000) as u32
+}
+
+fn unknown(unit: Gptimer) -> Gptimer {
+    say(b"  ?\n");
+    unit
 }
 
 fn reset() -> Gptimer {

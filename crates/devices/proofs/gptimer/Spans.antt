@@ -1,10 +1,10 @@
 -- What the code does with a span, and with the time of a pulse, is the direct form. Assumes nothing.
 use Prim.Native.Nat.{ℕ, zero, suc, _+_, _-_, _*_, _/_, _%_, _^_, _<_, _≤_, min}
 use mathlib.Core.Path.{_≡_, refl, sym, _∙_}
-use mathlib.Core.Bool.{true, false}
+use mathlib.Core.Bool.{true, false, cond}
 use mathlib.Core.List.{List, [], _∷_, map}
 use native.Mathlib.Omega.{arith}
-use native.Mathlib.Nat.{mod-lt, le-div-iff-mul-le, div-lt-iff-lt-mul}
+use native.Mathlib.Nat.{suc-sub-suc, sub-zero, mod-lt, le-div-iff-mul-le, div-lt-iff-lt-mul}
 use native.Mathlib.Numerals.{add-one, one-add}
 use lib.ListN.{length, length-map}
 use borrow.Author.Tests.{lt-ltb, le-ltb}
@@ -61,15 +61,13 @@ before-tick u n whole l =
     )
     refl
 
-module _ (x : Elapsed) (u : Gptimer) (whole : length (u .timers) ≡ 4) where
-  pub past-tick :
-      (n r : ℕ) → r ≡ valueAfterTick (u .sreload) → u .scaler < n →
-      x ≡ ticked n (1 + (n - (u .scaler + 1)) / (r + 1)) (withScaler (r - (n - (u .scaler + 1)) % (r + 1)) u) →
-      x ≡ advance n u
-  unfolding elapsed stands
-  past-tick n r er l e =
-      rw (advance-elapsed n u, le-ltb n (suc (u .scaler)) (omega arith), ← er)
-      (simp (add-one, one-add) at e)
+pub past-tick :
+    (x : Elapsed) (u : Gptimer) (n r : ℕ) → r ≡ valueAfterTick (u .sreload) → u .scaler < n →
+    x ≡ ticked n (1 + (n - (u .scaler + 1)) / (r + 1)) (withScaler (r - (n - (u .scaler + 1)) % (r + 1)) u) →
+    x ≡ advance n u
+unfolding elapsed stands
+past-tick x u n r er l e =
+    rw (advance-elapsed n u, le-ltb n (suc (u .scaler)) (omega arith), ← er) (simp (add-one, one-add) at e)
 
 -- a skip to the next pulse or to its limit, whichever is earlier
 pub skip-by :
@@ -126,23 +124,22 @@ pub cycle-of :
 cycle-of u r s m es em e = rw (← es, ← em, ← add-one (u .scaler), ← add-one s) e
 
 -- one step up the chain
+due-tick-at :
+    (ts : List Timer) (at j : ℕ) → 0 < at →
+    (let t : Timer = place ts (at - 1) in dueTick ts at j ≡ cond (t .ch) (dueTick ts (at - 1) (due j t)) (due j t))
+unfolding dueTick
+due-tick-at ts zero j more = absurd (omega arith)
+due-tick-at ts (suc n) j more = rw (suc-sub-suc n 0, sub-zero n) refl
+
 pub step-chained :
     (ts : List Timer) (at j d x : ℕ) → 0 < at → d ≡ due j (place ts (at - 1)) → place ts (at - 1) .ch ≡ true →
     dueTick ts at j ≡ x → dueTick ts (at - 1) d ≡ x
-unfolding dueTick
-step-chained ts zero j d x more e ch f = absurd (omega arith)
-step-chained ts (suc n) j d x more e ch f =
-    let last : suc n - 1 ≡ n = omega arith in
-    rw last (sym (rw (e, last) (rw (← last, ch) refl)) ∙ f)
+step-chained ts at j d x more e ch f = rw e (sym (due-tick-at ts at j more ∙ rw ch refl) ∙ f)
 
 pub step-free :
     (ts : List Timer) (at j d x : ℕ) → 0 < at → d ≡ due j (place ts (at - 1)) → place ts (at - 1) .ch ≡ false →
     dueTick ts at j ≡ x → d ≡ x
-unfolding dueTick
-step-free ts zero j d x more e ch f = absurd (omega arith)
-step-free ts (suc n) j d x more e ch f =
-    let last : suc n - 1 ≡ n = omega arith in
-    sym (rw (e, last) (rw (← last, ch) refl)) ∙ f
+step-free ts at j d x more e ch f = e ∙ sym (due-tick-at ts at j more ∙ rw ch refl) ∙ f
 
 pub step-none : (ts : List Timer) (at j x : ℕ) → at ≤ 0 → dueTick ts at j ≡ x → j ≡ x
 unfolding dueTick

@@ -13,12 +13,12 @@ use Rattle.devices.specs.declared.gptimer.Gptimer.{Gptimer}
 use Rattle.devices.specs.declared.gptimer.Elapsed.{Elapsed}
 use Rattle.devices.specs.declared.gptimer.Served.{Served}
 
--- A countdown that ends at its d-th count and then at every p-th, in k counts: what it comes to. `first` has its counts,
--- where it has not ended; `again` the periods since its first end and the counts since its last one.
+-- A countdown that ends at its d-th count and then at every p-th, in k counts: what it comes to. `first` is given the counts
+-- so far, where it has not ended; `again` the whole periods since its first end and the counts since its last one.
 unfoldable pub stands : {A : Type 0} → ℕ → ℕ → (ℕ → A) → (ℕ → ℕ → A) → ℕ → A
 stands d p first again k = cond (ltb k d) (first k) (again ((k - d) / p) ((k - d) % p))
 
--- how often it ends, and how often one that stops at its first end does
+-- how often it ends, and how often one that stops at its first end does, whatever period is put there
 abbrev pub ends : ℕ → ℕ → ℕ → ℕ
 ends d p k = stands d p (λ i. 0) (λ q i. suc q) k
 

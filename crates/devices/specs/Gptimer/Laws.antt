@@ -35,8 +35,8 @@ advance-cycles zero u = refl
 advance-cycles (suc n) u = ap suc (advance-cycles n (cycle u))
 
 -- "An idle skip takes a limit and passes the fewest cycles, one or more, whose last has a pulse; if there is none within
--- the limit it passes the limit." No fewer cycles have a pulse, and those below the limit have one: it is in the last of
--- them. (`advance 0` has none, so they are one or more.)
+-- the limit it passes the limit." No fewer cycles have a pulse, and if fewer than the limit are passed, they have one: it
+-- is in the last of them. (`advance 0` has none, so they are one or more.)
 pub record Least (limit : ℕ) (u : Gptimer) (e : Elapsed) : Type 0 where
   pub advances : e ≡ advance (e .cycles) u
   pub within : e .cycles ≤ limit

@@ -69,11 +69,6 @@ at-add i (x ∷ xs) [] = rw add-zero refl
 at-add zero (x ∷ xs) (y ∷ ys) = refl
 at-add (suc i) (x ∷ xs) (y ∷ ys) = at-add i xs ys
 
-pub at-none : (i : ℕ) (ts : List Timer) → getD (noPulses ts) i 0 ≡ 0
-at-none i [] = refl
-at-none zero (t ∷ ts) = refl
-at-none (suc i) (t ∷ ts) = at-none i ts
-
 neither : (a b : Bool) → (a || b) ≡ false → (a ≡ false) × (b ≡ false)
 neither true b e = absurd (true≢false e)
 neither false b e = (refl, e)
@@ -82,6 +77,9 @@ pub at-quiet : (i : ℕ) (xs : List ℕ) → anyPulse xs ≡ false → getD xs i
 at-quiet i [] e = refl
 at-quiet zero (x ∷ xs) e = let z : x ≤ 0 = ltb-false 0 x (neither (ltb 0 x) (anyPulse xs) e .0) in omega arith
 at-quiet (suc i) (x ∷ xs) e = at-quiet i xs (neither (ltb 0 x) (anyPulse xs) e .1)
+
+pub at-none : (i : ℕ) (ts : List Timer) → getD (noPulses ts) i 0 ≡ 0
+at-none i ts = at-quiet i (noPulses ts) (any-none ts)
 
 at-served : (i : ℕ) (b : Bool) (ts : List Timer) → getD (servePulses b ts) i 0 ≤ 1
 at-served i b [] = omega arith

@@ -4,10 +4,10 @@ use Rattle.gptimer_cycles.proofs.compare.Statement.{statement}
 use Rattle.gptimer_cycles.proofs.compare.Tie as tie
 
 abbrev Inv-loop : tie.InvT-loop
-Inv-loop machines from to differences₀ i₀ differences i = Unit {0}
+Inv-loop set from to differences₀ i₀ differences i = Unit {0}
 
 abbrev μ-loop : tie.MeasureT-loop
-μ-loop machines from to differences₀ i₀ differences i = i
+μ-loop set from to differences₀ i₀ differences i = i
 
 pub compare-spec : {M : Type 1} → statement M
 compare-spec =

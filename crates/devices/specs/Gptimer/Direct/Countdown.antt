@@ -89,62 +89,61 @@ earlier a b k =
       | no l ↦ rw (le-leb a k (omega arith), le-leb (min a b) k (omega arith)) refl
     ]
 
--- both countdowns, and what does not happen
-module _ (k d p : ℕ) (small : k < never) where
-  pub not-due : Due k 0 (λ j. never)
-  not-due =
-      record {
-        few = omega arith;
-        later = λ j l. omega arith;
-        by = λ j l. rw (lt-leb j 0 l, lt-leb never k small) refl;
-      }
+-- what does not happen, and both countdowns
+pub not-due : (k : ℕ) → k < never → Due k 0 (λ j. never)
+not-due k small =
+    record {
+      few = omega arith;
+      later = λ j l. omega arith;
+      by = λ j l. rw (lt-leb j 0 l, lt-leb never k small) refl;
+    }
 
-  module _ (pos : 0 < d) where
-    pub ends-due : 0 < p → Due k (ends d p k) (endsAt d p)
-    unfolding stands endsAt
-    ends-due again =
-        elim (decLt k d) [
-          | yes l ↦
-              rw (lt-ltb k d l)
-              (record {
-                few = omega arith;
-                later = λ j q. omega arith;
-                by = λ j q. leb-both j 0 (min (d + (j - 1) * p) never) k (λ r. omega arith) (λ r. omega arith);
-              })
-          | no l ↦
-              rw (le-ltb k d (omega arith))
-              (record {
-                few = omega (arith, div-le-self (k - d) p);
-                later = λ j q. omega arith;
-                by =
-                    λ j q.
-                    leb-both j (suc ((k - d) / p)) (min (d + (j - 1) * p) never) k
-                    (λ r. let m : (j - 1) * p ≤ k - d = le-div-iff-mul-le again .0 (omega arith) in omega arith)
-                    (λ r. let m : j - 1 ≤ (k - d) / p = le-div-iff-mul-le again .1 (omega arith) in omega arith);
-              })
-        ]
+module _ (k d : ℕ) (small : k < never) (pos : 0 < d) where
+  pub ends-due : (p : ℕ) → 0 < p → Due k (ends d p k) (endsAt d p)
+  unfolding stands endsAt
+  ends-due p again =
+      elim (decLt k d) [
+        | yes l ↦
+            rw (lt-ltb k d l)
+            (record {
+              few = omega arith;
+              later = λ j q. omega arith;
+              by = λ j q. leb-both j 0 (min (d + (j - 1) * p) never) k (λ r. omega arith) (λ r. omega arith);
+            })
+        | no l ↦
+            rw (le-ltb k d (omega arith))
+            (record {
+              few = omega (arith, div-le-self (k - d) p);
+              later = λ j q. omega arith;
+              by =
+                  λ j q.
+                  leb-both j (suc ((k - d) / p)) (min (d + (j - 1) * p) never) k
+                  (λ r. let m : (j - 1) * p ≤ k - d = le-div-iff-mul-le again .0 (omega arith) in omega arith)
+                  (λ r. let m : j - 1 ≤ (k - d) / p = le-div-iff-mul-le again .1 (omega arith) in omega arith);
+            })
+      ]
 
-    -- its first end is due as that of the other, and it has no second
-    pub once-due : Due k (once d k) (onceAt d)
-    unfolding stands onceAt
-    once-due =
-        elim (decLt k d) [
-          | yes l ↦
-              rw (lt-ltb k d l)
-              (record { few = omega arith; later = later; by = by 0 (omega arith) (λ r. omega arith) (λ r. omega arith) })
-          | no l ↦
-              rw (le-ltb k d (omega arith))
-              (record { few = omega arith; later = later; by = by 1 (omega arith) (λ r. omega arith) (λ r. omega arith) })
-        ]
-      where
-        later : (j : ℕ) → 0 < j → 0 < cond (eqb j 1) d never
-        later j q = elim (ℕ-discrete j 1) [ yes e ↦ rw (eq-eqb j 1 e) pos | no e ↦ rw (ne-eqb j 1 e) (omega arith) ]
+  -- its first end is due as that of the other, and it has no second
+  pub once-due : Due k (once d k) (onceAt d)
+  unfolding stands onceAt
+  once-due =
+      elim (decLt k d) [
+        | yes l ↦
+            rw (lt-ltb k d l)
+            (record { few = omega arith; later = later; by = by 0 (omega arith) (λ r. omega arith) (λ r. omega arith) })
+        | no l ↦
+            rw (le-ltb k d (omega arith))
+            (record { few = omega arith; later = later; by = by 1 (omega arith) (λ r. omega arith) (λ r. omega arith) })
+      ]
+    where
+      later : (j : ℕ) → 0 < j → 0 < cond (eqb j 1) d never
+      later j q = elim (ℕ-discrete j 1) [ yes e ↦ rw (eq-eqb j 1 e) pos | no e ↦ rw (ne-eqb j 1 e) (omega arith) ]
 
-        by :
-            (m : ℕ) → m ≤ 1 → (1 ≤ m → d ≤ k) → (d ≤ k → 1 ≤ m) → (j : ℕ) → 0 < j →
-            leb j m ≡ leb (cond (eqb j 1) d never) k
-        by m most f g j q =
-            elim (ℕ-discrete j 1) [
-              | yes e ↦ rw (eq-eqb j 1 e, e) (leb-both 1 m d k f g)
-              | no e ↦ rw (ne-eqb j 1 e) (leb-both j m never k (λ r. omega arith) (λ r. omega arith))
-            ]
+      by :
+          (m : ℕ) → m ≤ 1 → (1 ≤ m → d ≤ k) → (d ≤ k → 1 ≤ m) → (j : ℕ) → 0 < j →
+          leb j m ≡ leb (cond (eqb j 1) d never) k
+      by m most f g j q =
+          elim (ℕ-discrete j 1) [
+            | yes e ↦ rw (eq-eqb j 1 e, e) (leb-both 1 m d k f g)
+            | no e ↦ rw (ne-eqb j 1 e) (leb-both j m never k (λ r. omega arith) (λ r. omega arith))
+          ]

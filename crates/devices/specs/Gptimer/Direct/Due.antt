@@ -8,7 +8,7 @@ use native.Mathlib.Omega.{arith}
 use native.Mathlib.Numerals.{add-one}
 use native.Mathlib.Nat.{lt-of-le-of-lt, lt-of-lt-of-le}
 use lib.Dec.{leb, ltb}
-use lib.ListN.{length}
+use lib.ListN.{length, getD}
 use borrow.Author.Tests.{le-leb, lt-leb, leb-false}
 use Rattle.devices.specs.Gptimer.{place, anyPulse, advance, skip}
 use Rattle.devices.specs.Gptimer.Direct.{stands, never, endsAt, onceAt, countsLeft, Run, idle, fallen, restarted}
@@ -36,20 +36,27 @@ counts-due k t small =
         (cond rs (stands d p (fallen t) (restarted t) k) (stands d 1 (fallen t) (stopped t) k))
         (idle t) .underflows)
         (λ j. cond en (cond rs (endsAt d p j) (onceAt d j)) never)
-    by-flags d p first again false rs = not-due k d p small
+    by-flags d p first again false rs = not-due k small
     by-flags d p first again true true =
-        rw (stands-map (λ (r : Run). r .underflows) d p (fallen t) (restarted t) k) (ends-due k d p small first again)
+        rw (stands-map (λ (r : Run). r .underflows) d p (fallen t) (restarted t) k) (ends-due k d small first p again)
     by-flags d p first again true false =
-        rw (stands-map (λ (r : Run). r .underflows) d 1 (fallen t) (stopped t) k) (once-due k d p small first)
+        rw (stands-map (λ (r : Run). r .underflows) d 1 (fallen t) (stopped t) k) (once-due k d small first)
 
--- The underflows of timer n in some ticks; before timer 1 stands the tick itself.
-unfoldable pub underflowsAt : ℕ → List Timer → ℕ → ℕ
-underflowsAt ticks ts zero = ticks
-underflowsAt ticks ts (suc n) =
-    run (countsIn ticks (underflowsAt ticks ts n) (place ts n)) (place ts n) .underflows
+pub due-later : (j : ℕ) (t : Timer) → 0 < j → 0 < due j t
+due-later j t l = counts-due 0 t (omega arith) .later j l
+
+-- The underflows of timer n in some ticks, those of the timer before the first being given. Before timer 1 stands the tick
+-- itself.
+unfoldable pub underflowsFrom : ℕ → ℕ → List Timer → ℕ → ℕ
+underflowsFrom before ticks ts zero = before
+underflowsFrom before ticks ts (suc n) =
+    run (countsIn ticks (underflowsFrom before ticks ts n) (place ts n)) (place ts n) .underflows
+
+abbrev pub underflowsAt : ℕ → List Timer → ℕ → ℕ
+underflowsAt ticks ts n = underflowsFrom ticks ticks ts n
 
 pub ticks-due : (ticks n : ℕ) (ts : List Timer) → ticks < never → Due ticks (underflowsAt ticks ts n) (dueTick ts n)
-unfolding underflowsAt dueTick
+unfolding underflowsFrom dueTick
 ticks-due ticks zero ts small =
     record { few = omega arith; later = λ j l. l; by = λ j l. refl }
 ticks-due ticks (suc n) ts small =
@@ -64,7 +71,7 @@ ticks-due ticks (suc n) ts small =
 
 -- The ticks in some cycles, and so the underflows of timer n in them: its j-th is in cycle `tickCycle u (dueTick ts n j)`.
 pub prescaler-due : (k : ℕ) (u : Gptimer) → k < never → Due k (ticksIn k u) (tickCycle u)
-prescaler-due k u small = ends-due k (suc (u .scaler)) (period u) small (omega arith) (omega arith)
+prescaler-due k u small = ends-due k (suc (u .scaler)) small (omega arith) (period u) (omega arith)
 
 pub underflows-due :
     (k n : ℕ) (u : Gptimer) → k < never →
@@ -73,6 +80,32 @@ underflows-due k n u small =
     let ticks : Due k (ticksIn k u) (tickCycle u) = prescaler-due k u small in
     due-through (tickCycle u) (dueTick (u .timers) n) ticks
     (ticks-due (ticksIn k u) n (u .timers) (lt-of-le-of-lt (ticks .few) small))
+
+-- They are the pulses of single cycles, where the timer has IE.
+from-next :
+    (before ticks n : ℕ) (t : Timer) (ts : List Timer) →
+    underflowsFrom (run (countsIn ticks before t) t .underflows) ticks ts n ≡ underflowsFrom before ticks (t ∷ ts) (suc n)
+unfolding underflowsFrom
+from-next before ticks zero t ts = refl
+from-next before ticks (suc n) t ts =
+    ap (λ (m : ℕ). run (countsIn ticks m (place ts n)) (place ts n) .underflows) (from-next before ticks n t ts)
+
+at-place :
+    (before ticks i : ℕ) (ts : List Timer) →
+    getD (servedPulses ticks before ts) i 0 ≡ pulsesOf (place ts i) (underflowsFrom before ticks ts (suc i))
+unfolding underflowsFrom
+at-place before ticks i [] = refl
+at-place before ticks zero (t ∷ ts) = refl
+at-place before ticks (suc i) (t ∷ ts) =
+    at-place (run (countsIn ticks before t) t .underflows) ticks i ts ∙
+    ap (pulsesOf (place ts i)) (from-next before ticks (suc i) t ts)
+
+pub pulses-at :
+    (k i : ℕ) (u : Gptimer) →
+    getD (advance k u .pulses) i 0 ≡
+    pulsesOf (place (u .timers) i) (underflowsAt (ticksIn k u) (u .timers) (suc i))
+unfolding elapsed
+pulses-at k i u = rw (advance-elapsed k u) (at-place (ticksIn k u) (ticksIn k u) i (u .timers))
 
 -- The first pulse of the timer at place n, and of all four.
 pulse-due :
@@ -103,7 +136,7 @@ four P f (a ∷ b ∷ c ∷ d ∷ x ∷ ts) e = absurd (omega arith)
 first-due :
     (ticks : ℕ) (ts : List Timer) → length ts ≡ 4 → ticks < never →
     anyPulse (servedPulses ticks ticks ts) ≡ leb (firstTick ts) ticks
-unfolding underflowsAt
+unfolding underflowsFrom
 first-due ticks ts e small =
     four (λ ts. anyPulse (servedPulses ticks ticks ts) ≡ leb (firstTick ts) ticks)
     (λ a b c d.
@@ -123,27 +156,27 @@ first-due ticks ts e small =
     ts e
 
 pub first-later : (ts : List Timer) → length ts ≡ 4 → 0 < firstTick ts
-first-later ts four =
+first-later ts whole =
     leb-false (firstTick ts) 0
-    (sym (first-due 0 ts four (omega arith)) ∙ ap anyPulse (servedPulses-none ts) ∙ any-none ts)
+    (sym (first-due 0 ts whole (omega arith)) ∙ ap anyPulse (servedPulses-none ts) ∙ any-none ts)
 
 -- Some timer has pulsed exactly from the cycle of the first pulse's tick on.
 cycles-due :
     (n : ℕ) (u : Gptimer) → length (u .timers) ≡ 4 → n < never →
     anyPulse (advance n u .pulses) ≡ leb (tickCycle u (firstTick (u .timers))) n
 unfolding elapsed
-cycles-due n u four small =
+cycles-due n u whole small =
     let ticks : Due n (ticksIn n u) (tickCycle u) = prescaler-due n u small in
     rw (advance-elapsed n u)
-    (first-due (ticksIn n u) (u .timers) four (lt-of-le-of-lt (ticks .few) small) ∙
-    ticks .by (firstTick (u .timers)) (first-later (u .timers) four))
+    (first-due (ticksIn n u) (u .timers) whole (lt-of-le-of-lt (ticks .few) small) ∙
+    ticks .by (firstTick (u .timers)) (first-later (u .timers) whole))
 
 -- So a skip is an advance to that cycle, or to the limit.
 pub skip-advance :
     (limit : ℕ) (u : Gptimer) → length (u .timers) ≡ 4 → limit ≤ never →
     skip limit u ≡ advance (min (tickCycle u (firstTick (u .timers))) limit) u
-skip-advance limit u four small =
-    by-least (tickCycle u (firstTick (u .timers))) (λ k l. cycles-due k u four (lt-of-lt-of-le l small))
+skip-advance limit u whole small =
+    by-least (tickCycle u (firstTick (u .timers))) (λ k l. cycles-due k u whole (lt-of-lt-of-le l small))
   where
     by-least :
         (d : ℕ) → ((k : ℕ) → k < limit → anyPulse (advance k u .pulses) ≡ leb d k) →
@@ -158,7 +191,3 @@ skip-advance limit u four small =
           quiet = λ k l. by k (omega arith) ∙ lt-leb d k (omega arith);
           pulse = λ l. rw c (by n (omega arith) ∙ le-leb d n (omega arith));
         })
-
--- A time that is due is a step from 1 on.
-pub due-later : (j : ℕ) (t : Timer) → 0 < j → 0 < due j t
-due-later j t l = counts-due 0 t (omega arith) .later j l

@@ -76,17 +76,17 @@ falls-wrap (suc k) c w e l =
 abbrev enabled : ℕ → ℕ → Bool → Bool → Bool → Bool → Timer
 enabled c l rs ie ip ch = record { counter = c; reload = l; en = true; rs = rs; ie = ie; ip = ip; ch = ch }
 
-abbrev bump : Bool → Run → Run
-bump u r = record { underflows = more u (r .underflows); timer = r .timer }
+abbrev oneMore : Bool → Run → Run
+oneMore u r = record { underflows = more u (r .underflows); timer = r .timer }
 
 run-suc :
     (k c l : ℕ) (rs ie ip ch u : Bool) → countUnderflows (enabled c l rs ie ip ch) ≡ u →
-    run (suc k) (enabled c l rs ie ip ch) ≡ bump u (run k (count (enabled c l rs ie ip ch)))
+    run (suc k) (enabled c l rs ie ip ch) ≡ oneMore u (run k (count (enabled c l rs ie ip ch)))
 unfolding run count falls
 run-suc k c l true ie ip ch true e =
     let t : Timer = enabled c l true ie ip ch in
     rw (left-last t e, e, stands-again (countsLeft l) (fallen t) (restarted t) k (left-pos l))
-    (sym (stands-map (bump true) (countsLeft l) (countsLeft l) _ _ k))
+    (sym (stands-map (oneMore true) (countsLeft l) (countsLeft l) _ _ k))
 run-suc k c l false ie ip ch true e =
     let t : Timer = enabled c l false ie ip ch in
     rw (left-last t e, e, stands-past 1 1 (fallen t) (stopped t) (suc k) (omega arith), rests t e) refl
@@ -97,7 +97,7 @@ run-suc k c l false ie ip ch false e =
     let t : Timer = enabled c l false ie ip ch in
     rw (e, left-falls t e) (stands-fall (countsLeft (fall c)) 1 (fallen t) _ (stopped t) k refl)
 
--- a count leaves CH and IE as they are
+-- a count leaves what does not look at the counter, EN and IP, as CH and IE
 module _ {B : Type 0} (f : Timer → B) (t : Timer) where
   count-keeps :
       ((c : ℕ) (en ip : Bool) → f (withIp ip (withEn en (withCounter c t))) ≡ f t) → f (count t) ≡ f t
@@ -106,7 +106,7 @@ module _ {B : Type 0} (f : Timer → B) (t : Timer) where
       chosen (λ b (x : Timer). f x ≡ f t) (countUnderflows t) _ _
       (chosen (λ b (x : Timer). f (withIp true x) ≡ f t) (t .rs) _ _ (kept _ _ _) (kept _ _ _)) (kept _ _ _)
 
--- A timer at one tick, and at T more: `m` is how often the timer before it underflows in those.
+-- A timer at one tick and at some more: `m` is how often the timer before it underflows in those.
 module _ (ticks m : ℕ) where
   abbrev now : Bool → Timer → Timer
   now b t = cond (countsNow b t) (count t) t
@@ -115,8 +115,8 @@ module _ (ticks m : ℕ) where
   record Tick (b : Bool) (t : Timer) : Type 0 where
     runs :
         run (countsIn (suc ticks) (more b m) t) t ≡
-        bump (underflowsNow b t) (run (countsIn ticks m (now b t)) (now b t))
-    enable : now b t .ie ≡ t .ie
+        oneMore (underflowsNow b t) (run (countsIn ticks m (now b t)) (now b t))
+    ie-kept : now b t .ie ≡ t .ie
 
   counting :
       (b : Bool) (k c l : ℕ) (rs ie ip ch : Bool) → (not ch || b) ≡ true →
@@ -128,7 +128,7 @@ module _ (ticks m : ℕ) where
       rw (count-keeps (λ (x : Timer). x .ch) t (λ c en ip. refl)) those in
       record {
         runs = rw (now-too, these, after) (run-suc k c l rs ie ip ch _ refl);
-        enable = rw now-too (count-keeps (λ (x : Timer). x .ie) t (λ c en ip. refl));
+        ie-kept = rw now-too (count-keeps (λ (x : Timer). x .ie) t (λ c en ip. refl));
       }
 
   at-tick : (b : Bool) (t : Timer) → Tick b t
@@ -138,8 +138,8 @@ module _ (ticks m : ℕ) where
       by-flags :
           (b : Bool) (c l : ℕ) (en rs ie ip ch : Bool) →
           Tick b (record { counter = c; reload = l; en = en; rs = rs; ie = ie; ip = ip; ch = ch })
-      by-flags b c l false rs ie ip ch = record { runs = refl; enable = refl }
-      by-flags false c l true rs ie ip true = record { runs = refl; enable = refl }
+      by-flags b c l false rs ie ip ch = record { runs = refl; ie-kept = refl }
+      by-flags false c l true rs ie ip true = record { runs = refl; ie-kept = refl }
       by-flags true c l true rs ie ip true = counting true m c l rs ie ip true refl refl refl
       by-flags b c l true rs ie ip false = counting b ticks c l rs ie ip false refl refl refl
 
@@ -163,7 +163,7 @@ servedPulses-suc ticks m b [] = refl
 servedPulses-suc ticks m b (t ∷ ts) =
     rw (
       at-tick ticks m b t .runs,
-      pulses-more (underflowsNow b t) (t .ie) _ _ (at-tick ticks m b t .enable),
+      pulses-more (underflowsNow b t) (t .ie) _ _ (at-tick ticks m b t .ie-kept),
       servedPulses-suc ticks _ _ ts,
     )
     refl

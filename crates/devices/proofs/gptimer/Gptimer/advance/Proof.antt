@@ -10,4 +10,4 @@ advance-spec =
     (tie.spec (λ c. search needs) (λ c. search needs) (λ c. search (length-of, before-tick)) (λ c. search needs)
     (λ c. search needs) (λ c κs. search needs) (λ c. search needs) (λ c. search needs) (λ c. search rest-within)
     (λ c. search needs) (λ c. search needs) (λ c. search ticks-fit) (λ c κs. search needs)
-    (λ c. search (length-of, past-tick)))
+    (λ c. search past-tick))

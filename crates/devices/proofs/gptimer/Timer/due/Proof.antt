@@ -11,5 +11,4 @@ unfolding due onceAt
 due-spec =
     tie.close
     (tie.spec (λ c κs. search needs) (λ c. search due-first) (λ c κs. search needs) (λ c κs. search needs)
-    (λ c. search (end-of, cases) depth 12) (λ c. search (end-of, cases) depth 12)
-    (λ c. search (end-of, cases) depth 12))
+    (λ c. search (end-of, cases) depth 12) (λ c. search cases depth 12) (λ c. search cases depth 12))

@@ -7,4 +7,4 @@ pub write-control-spec : {M : Type 1} → statement M
 write-control-spec =
     tie.close
     (tie.spec (λ c κs. search needs) (λ c κs. search needs)
-    (λ c. rw (c .load .ensures, c .before .clear .ensures)))
+    (λ c. rw (c .load-counter .ensures, c .before .clear-pending .ensures)))

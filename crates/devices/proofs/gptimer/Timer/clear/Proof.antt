@@ -1,7 +1,0 @@
--- Each return follows from the tests that led to it. Assumes nothing.
-use Rattle.devices.proofs.Cases.{cases}
-use Rattle.devices.proofs.gptimer.Timer.clear.Statement.{statement}
-use Rattle.devices.proofs.gptimer.Timer.clear.Tie as tie
-
-pub clear-spec : {M : Type 1} → statement M
-clear-spec = tie.close (tie.spec (λ c. search cases) (λ c. search cases))
