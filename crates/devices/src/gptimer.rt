@@ -69,7 +69,7 @@ impl Timer {
     pub const CH: u32 = 0x20;
 
     // Timers 1 to 3 at reset.
-    pub fn reset_state() -> Self
+    pub(crate) fn reset_state() -> Self
         ensures { λ r. ⌜ r ≡ gpt.zeroTimer ⌝ }
     {
         Timer {
@@ -84,7 +84,7 @@ impl Timer {
     }
 
     // Timer 4 at reset counts down once.
-    pub fn reset_state_4() -> Self
+    pub(crate) fn reset_state_4() -> Self
         ensures { λ r. ⌜ r ≡ gpt.resetTimer4 ⌝ }
     {
         Timer {
