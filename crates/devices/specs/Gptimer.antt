@@ -6,6 +6,7 @@
 pub mod Pulses
 pub mod Laws
 pub mod Direct
+pub mod FromReset
 use Prim.Native.Nat.{ℕ, zero, suc, _+_, _-_, _^_, _/_, _%_}
 use mathlib.Core.Bool.{Bool, false, true, cond, not, _&&_, _||_}
 use mathlib.Core.List.{List, [], _∷_, map}

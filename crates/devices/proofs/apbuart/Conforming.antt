@@ -6,7 +6,7 @@ use mathlib.Core.List.{List, [], _∷_, _++_}
 use lib.ListN.{length}
 use lib.Dec.{leb}
 use borrow.Author.Tests.{lt-leb}
-use Rattle.devices.proofs.Cases.{tests}
+use Rattle.devices.specs.Cases.{tests}
 use Rattle.devices.specs.Refusal.{notRefused}
 use Rattle.devices.specs.Fifo.{queued, pushed}
 use Rattle.devices.specs.Apbuart.{Port, Answer, depth, wellFormed, refused, accepted, emitting}

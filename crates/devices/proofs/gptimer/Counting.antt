@@ -7,7 +7,7 @@ use lib.Dec.{ltb}
 use native.Mathlib.Nat.{lt-of-lt-of-le, mod-lt, div-le-self}
 use native.Mathlib.Numerals.{one-add}
 use borrow.Author.Tests.{lt-ltb, le-ltb}
-use Rattle.devices.specs.Cond.{same}
+use Rattle.devices.specs.Cases.{same}
 use Rattle.devices.specs.Gptimer.{withCounter, withIp, withEn}
 use Rattle.devices.specs.Gptimer.Direct.{falls, countsLeft, atRest, stands, run}
 use Rattle.devices.specs.Gptimer.Direct.{pulsesOf, countsIn, countedTimer, servedTimer}

@@ -2,13 +2,13 @@
 use Prim.Native.Nat.{ℕ, zero, suc, _+_, _-_, _*_, _/_, _%_, _^_, _<_, _≤_, min}
 use mathlib.Core.Path.{_≡_, refl, sym, _∙_}
 use mathlib.Core.Bool.{true, false, cond}
-use mathlib.Core.List.{List, [], _∷_, map}
+use mathlib.Core.List.{List, [], _∷_}
 use native.Mathlib.Omega.{arith}
 use native.Mathlib.Nat.{suc-sub-suc, sub-zero, mod-lt, le-div-iff-mul-le, div-lt-iff-lt-mul}
 use native.Mathlib.Numerals.{add-one, one-add}
-use lib.ListN.{length, length-map}
+use lib.ListN.{length}
 use borrow.Author.Tests.{lt-ltb, le-ltb}
-use Rattle.devices.specs.Cond.{chosen}
+use Rattle.devices.specs.Cases.{chosen}
 use Rattle.devices.specs.Gptimer.{place, valueAfterTick, withScaler, withTimers, noPulses, advance, skip}
 use Rattle.devices.specs.Gptimer.Direct.{stands, endsAt, onceAt, countsLeft, servedTimer, ticked, elapsed, due}
 use Rattle.devices.specs.Gptimer.Direct.{dueTick, firstTick, tickCycle}
@@ -19,10 +19,6 @@ use Rattle.devices.specs.declared.gptimer.Timer.{Timer}
 use Rattle.devices.specs.declared.gptimer.Served.{Served}
 use Rattle.devices.specs.declared.gptimer.Gptimer.{Gptimer}
 use Rattle.devices.specs.declared.gptimer.Elapsed.{Elapsed}
-
--- the code's word on an array's length is one on what its elements denote
-pub length-of : {A B : Type 0} (f : A → B) (l : List A) (n : ℕ) → length (map f l) ≡ n → length l ≡ n
-length-of f l n e = sym (length-map l f) ∙ e
 
 shape : (ts : List Timer) → length ts ≡ 4 → ts ≡ place ts 0 ∷ place ts 1 ∷ place ts 2 ∷ place ts 3 ∷ []
 shape ts whole =

@@ -9,7 +9,8 @@ use lib.ListN.{length, length-append}
 use lib.Dec.{leb, ltb}
 use borrow.Author.Tests.{leb-true, le-leb, ltb-true, eq-eqb}
 use Rattle.devices.specs.Word.{bit}
-use Rattle.devices.specs.Refusal.{illFormed}
+use Rattle.devices.specs.Cases as law
+use Rattle.devices.specs.Refusal.{notRefused, illFormed}
 use Rattle.devices.specs.Apbuart.{Port, Answer, FA, depth, wellFormed, refused, accepted, guarded}
 use Rattle.devices.specs.Apbuart.{withQueue, updateLevel, younger, writeControl, writeScaler}
 use Rattle.devices.specs.Apbuart.{readRegister, writeRegister, receive, resetState, read, write, offer, reset}
@@ -83,3 +84,18 @@ offer-keeps byte p = keeps p (receive byte p) (λ w. search (chosen, byte-joined
 pub reset-keeps : (p : Port) → wellFormed (reset p .port) ≡ wellFormed p
 unfolding reset wellFormed
 reset-keeps p = keeps p (accepted 0 resetState) (λ w. refl)
+
+-- an access of a well-formed port is not refused
+number : (b : Bool) (x y : Answer) → x .refusal ≡ notRefused → y .refusal ≡ notRefused → cond b x y .refusal ≡ notRefused
+number b x y e f = law.chosen (λ c (a : Answer). a .refusal ≡ notRefused) b x y e f
+
+module _ (p : Port) (w : wellFormed p ≡ true) where
+  pub read-accepted : (offset : ℕ) → read offset p .refusal ≡ notRefused
+  unfolding read
+  read-accepted offset =
+      let register : readRegister offset p .refusal ≡ notRefused = search number depth 12 in rw w register
+
+  pub write-accepted : (offset value : ℕ) → write offset value p .refusal ≡ notRefused
+  unfolding write
+  write-accepted offset value =
+      let register : writeRegister offset value p .refusal ≡ notRefused = search number depth 12 in rw w register

@@ -8,7 +8,7 @@ use native.Mathlib.Decide.{decLt, ℕ-discrete}
 use native.Mathlib.Omega.{arith}
 use lib.Dec.{eqb}
 use lib.ListN.{getD}
-use Rattle.devices.specs.Cond.{chosen}
+use Rattle.devices.specs.Cases.{chosen}
 use Rattle.devices.specs.Gptimer.{place, serve, underflowsNow, countUnderflows, countsNow, count}
 use Rattle.devices.specs.Gptimer.{addPulses, anyPulse, noCycle, cycleThen, cycle, cyclePulses, advance, skip}
 use Rattle.devices.specs.Gptimer.Pulses.{adds-assoc, any-add, any-none, none-advance}

@@ -9,7 +9,7 @@ use native.Mathlib.Omega.{arith}
 use lib.Dec.{eqb, ltb}
 use lib.ListN.{getD}
 use borrow.Author.Tests.{lt-ltb, ltb-false}
-use Rattle.devices.specs.Cond.{chosen}
+use Rattle.devices.specs.Cases.{chosen}
 use Rattle.devices.specs.Gptimer.{servePulses, underflowsNow, addPulses, anyPulse, noPulses, cyclePulses, advance}
 use Rattle.devices.specs.declared.gptimer.Timer.{Timer}
 use Rattle.devices.specs.declared.gptimer.Gptimer.{Gptimer}

@@ -9,7 +9,7 @@ use native.Mathlib.Decide.{decLt, ℕ-discrete}
 use native.Mathlib.Omega.{arith}
 use lib.Dec.{leb, ltb, eqb, leb·suc-suc}
 use borrow.Author.Tests.{lt-ltb, le-ltb, le-leb, lt-leb, eq-eqb, ne-eqb}
-use Rattle.devices.specs.Cond.{chosen}
+use Rattle.devices.specs.Cases.{chosen}
 use Rattle.devices.specs.Gptimer.Direct.{stands, ends, once, endsAt, onceAt, never}
 
 module _ {A : Type 0} where

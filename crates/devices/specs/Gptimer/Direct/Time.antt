@@ -9,7 +9,7 @@ use native.Mathlib.Nat.{zero-add, suc-sub-suc, sub-zero}
 use native.Mathlib.Numerals.{one-add}
 use lib.Dec.{eqb}
 use borrow.Author.Tests.{eq-eqb, ne-eqb, eqb-true}
-use Rattle.devices.specs.Cond.{chosen, same}
+use Rattle.devices.specs.Cases.{chosen, same}
 use Rattle.devices.specs.Gptimer.{fall, countUnderflows, count, countsNow, underflowsNow, serve, servePulses}
 use Rattle.devices.specs.Gptimer.{withCounter, withEn, withIp, noPulses, addPulses, valueAfterTick}
 use Rattle.devices.specs.Gptimer.{cycle, cyclePulses, cycleThen, advance}

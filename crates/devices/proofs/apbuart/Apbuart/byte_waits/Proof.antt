@@ -1,6 +1,6 @@
 -- Each return follows from the tests that led to it. Assumes nothing.
 use borrow.Author.Needs.{needs}
-use Rattle.devices.proofs.Cases.{cases}
+use Rattle.devices.specs.Cases.{cases}
 use Rattle.devices.proofs.apbuart.Apbuart.byte_waits.Statement.{statement}
 use Rattle.devices.proofs.apbuart.Apbuart.byte_waits.Tie as tie
 

@@ -1,6 +1,7 @@
 -- A span before the next tick, or past it. Assumes nothing.
 use borrow.Author.Needs.{needs}
-use Rattle.devices.proofs.gptimer.Spans.{length-of, before-tick, past-tick, ticks-fit, rest-within}
+use Rattle.devices.specs.Lists.{length-of}
+use Rattle.devices.proofs.gptimer.Spans.{before-tick, past-tick, ticks-fit, rest-within}
 use Rattle.devices.proofs.gptimer.Gptimer.advance.Statement.{statement}
 use Rattle.devices.proofs.gptimer.Gptimer.advance.Tie as tie
 

@@ -1,6 +1,7 @@
 -- The cycle of the first tick that has a pulse. Assumes nothing.
 use borrow.Author.Needs.{needs}
-use Rattle.devices.proofs.gptimer.Spans.{length-of, first-after, cycle-of}
+use Rattle.devices.specs.Lists.{length-of}
+use Rattle.devices.proofs.gptimer.Spans.{first-after, cycle-of}
 use Rattle.devices.proofs.gptimer.Gptimer.next_pulse.Statement.{statement}
 use Rattle.devices.proofs.gptimer.Gptimer.next_pulse.Tie as tie
 

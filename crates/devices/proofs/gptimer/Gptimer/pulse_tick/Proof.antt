@@ -1,6 +1,6 @@
 -- Each return follows from the tests that led to it. Assumes nothing.
 use borrow.Author.Needs.{needs}
-use Rattle.devices.proofs.Cases.{cases}
+use Rattle.devices.specs.Cases.{cases}
 use Rattle.devices.proofs.gptimer.Gptimer.pulse_tick.Statement.{statement}
 use Rattle.devices.proofs.gptimer.Gptimer.pulse_tick.Tie as tie
 

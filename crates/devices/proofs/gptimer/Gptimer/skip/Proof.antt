@@ -1,6 +1,7 @@
 -- A skip to the next pulse, or to its limit. Assumes nothing.
 use borrow.Author.Needs.{needs}
-use Rattle.devices.proofs.gptimer.Spans.{length-of, skip-by}
+use Rattle.devices.specs.Lists.{length-of}
+use Rattle.devices.proofs.gptimer.Spans.{skip-by}
 use Rattle.devices.proofs.gptimer.Gptimer.skip.Statement.{statement}
 use Rattle.devices.proofs.gptimer.Gptimer.skip.Tie as tie
 

@@ -2,7 +2,8 @@
 use borrow.Author.Needs.{needs}
 use mathlib.Core.Path.{_≡_}
 use lib.ListN.{length}
-use Rattle.devices.proofs.gptimer.Spans.{length-of, ticks-by}
+use Rattle.devices.specs.Lists.{length-of}
+use Rattle.devices.proofs.gptimer.Spans.{ticks-by}
 use Rattle.devices.proofs.gptimer.Gptimer.tick.Statement.{statement}
 use Rattle.devices.proofs.gptimer.Gptimer.tick.Tie as tie
 

@@ -1,5 +1,5 @@
 -- Each return follows from the tests that led to it. Assumes nothing.
-use Rattle.devices.proofs.Cases.{cases}
+use Rattle.devices.specs.Cases.{cases}
 use native.Mathlib.Omega.{arith}
 use Rattle.devices.specs.Gptimer.Direct.{countsLeft}
 use Rattle.devices.proofs.gptimer.Timer.counts_left.Statement.{statement}

@@ -1,6 +1,6 @@
 -- Each return follows from the tests that led to it. Assumes nothing.
 use borrow.Author.Needs.{needs}
-use Rattle.devices.proofs.Cases.{cases}
+use Rattle.devices.specs.Cases.{cases}
 use Rattle.devices.proofs.gptimer.Spans.{due-first, end-of}
 use Rattle.devices.specs.Gptimer.Direct.{due, onceAt}
 use Rattle.devices.proofs.gptimer.Timer.due.Statement.{statement}

@@ -1,9 +1,19 @@
--- Tests against `cond`, `&&` and `||`: `search cases` closes a return from the tests that led to it. Assumes nothing.
+-- Laws of tests: of `cond`, `&&` and `||`. `search cases` closes a return of a function from the tests that led to it.
+-- Assumes nothing.
 use Prim.Native.Nat.{ℕ, _≤_, _<_}
 use mathlib.Core.Path.{_≡_, refl}
-use lib.Dec.{ltb}
 use mathlib.Core.Bool.{Bool, true, false, cond, _&&_, _||_}
+use lib.Dec.{ltb}
 use borrow.Author.Tests.{le-ltb, lt-ltb, le-leb, lt-leb, eq-eqb, ne-eqb}
+
+-- What holds of both of two values holds of the one that a test chooses.
+pub chosen : {A : Type 0} (P : Bool → A → Type 0) (b : Bool) (x y : A) → P true x → P false y → P b (cond b x y)
+chosen P true x y p q = p
+chosen P false x y p q = q
+
+-- There is no choice between a value and itself.
+pub same : {A : Type 0} (b : Bool) (x : A) → cond b x x ≡ x
+same b x = chosen (λ c y. y ≡ x) b x x refl refl
 
 pub if-true : {A : Type 0} (b : Bool) (x y z : A) → b ≡ true → x ≡ y → x ≡ cond b y z
 if-true b x y z t e = rw t e

@@ -1,0 +1,10 @@
+-- The levels are those of the machine. Assumes nothing.
+use borrow.Author.Needs.{needs}
+use mathlib.Core.Path.{refl}
+use Rattle.bus.proofs.machine.Answer.refused.Statement.{statement}
+use Rattle.bus.proofs.machine.Answer.refused.Tie as tie
+
+pub refused-spec : {M : Type 1} → statement M
+refused-spec =
+    tie.close
+    (tie.spec (λ c κs. search needs) (λ c. (rw (c .levels .ensures) refl, refl)))

@@ -1,0 +1,11 @@
+-- Each return follows from the tests that led to it. Assumes nothing.
+use borrow.Author.Needs.{needs}
+use Rattle.bus.proofs.machine.Answering.{answering}
+use Rattle.bus.proofs.machine.Machine.advance.Statement.{statement}
+use Rattle.bus.proofs.machine.Machine.advance.Tie as tie
+
+pub advance-spec : {M : Type 1} → statement M
+advance-spec =
+    tie.close
+    (tie.spec (λ c κs. search needs) (λ c κs. search needs) (λ c. search answering) (λ c κs. search needs)
+    (λ c κs. search needs) (λ c. search answering))

@@ -1,0 +1,10 @@
+-- Each arm is a case of the definition. Assumes nothing.
+use Rattle.bus.proofs.machine.Answering.{reaching}
+use Rattle.bus.proofs.machine.Machine.read_found.Statement.{statement}
+use Rattle.bus.proofs.machine.Machine.read_found.Tie as tie
+
+pub read-found-spec : {M : Type 1} → statement M
+read-found-spec =
+    tie.close
+    (tie.spec (λ c. search reaching) (λ c κs. search reaching) (λ c κs. search reaching) (λ c. search reaching)
+    (λ c κs. search reaching) (λ c. search reaching) (λ c. search reaching))

@@ -1,0 +1,11 @@
+-- Each return follows from the tests that led to it. Assumes nothing.
+use borrow.Author.Needs.{needs}
+use Rattle.bus.proofs.machine.Answering.{answering}
+use Rattle.bus.proofs.machine.Machine.reset.Statement.{statement}
+use Rattle.bus.proofs.machine.Machine.reset.Tie as tie
+
+pub reset-spec : {M : Type 1} → statement M
+reset-spec =
+    tie.close
+    (tie.spec (λ c κs. search needs) (λ c κs. search needs) (λ c κs. search needs) (λ c κs. search needs)
+    (λ c. search answering) (λ c. search answering))

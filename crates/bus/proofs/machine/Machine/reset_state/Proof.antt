@@ -1,0 +1,11 @@
+-- Each device is at reset. Assumes nothing.
+use borrow.Author.Needs.{needs}
+use mathlib.Core.Path.{refl}
+use Rattle.bus.proofs.machine.Machine.reset_state.Statement.{statement}
+use Rattle.bus.proofs.machine.Machine.reset_state.Tie as tie
+
+pub reset-state-spec : {M : Type 1} → statement M
+reset-state-spec =
+    tie.close
+    (tie.spec (λ c κs. search needs) (λ c κs. search needs)
+    (λ c. rw (c .before .reset-state .ensures, c .reset-state2 .ensures) refl))

@@ -1,0 +1,104 @@
+-- The ports of a machine, as the code goes through them. Assumes nothing.
+use Prim.Native.Nat.{ℕ, zero, suc, _+_, _*_, _-_, _^_, _≤_, _<_}
+use mathlib.Core.Path.{_≡_, refl, sym, _∙_}
+use mathlib.Core.Bool.{Bool, true, false, cond}
+use mathlib.Core.List.{List, [], _∷_, map}
+use native.Mathlib.Omega.{arith}
+use native.Mathlib.Nat.{pow-suc, pow-le-pow-right, suc-sub-suc, sub-zero}
+use native.Mathlib.Numerals.{add-one}
+use lib.ListN.{length, getD, set, drop, drop-of-length-le, length-map, length-drop, List·getD-eq-default}
+use mir.Syntax.{w8}
+use mir.Val.{boolByte, Fits}
+use Rattle.devices.specs.Cases.{chosen}
+use Rattle.devices.specs.Apbuart as uart
+use Rattle.devices.specs.Apbuart.View.{portOf}
+use Rattle.devices.specs.declared.apbuart.Apbuart.{Apbuart}
+use Rattle.bus.specs.Machine.{allWell, levelsOf}
+use Rattle.bus.proofs.Lists.{from-place, set-beyond}
+
+-- Whether every port is well formed, from each place on.
+module _
+    (ps : List Apbuart) (n i : ℕ) (whole : length ps ≡ n)
+    (so-far : allWell (map portOf (drop i ps)) ≡ allWell (map portOf ps)) where
+  pub well-later :
+      (z : Apbuart) (b : Bool) → i < n → b ≡ uart.wellFormed (portOf (getD ps i z)) → b ≡ true →
+      allWell (map portOf (drop (i + 1) ps)) ≡ allWell (map portOf ps)
+  unfolding allWell
+  well-later z b l e t = sym (sym so-far ∙ rw (from-place ps i z (omega arith), ← e, t, add-one) refl)
+
+  pub ill-here :
+      (z : Apbuart) (b : Bool) → i < n → b ≡ uart.wellFormed (portOf (getD ps i z)) → b ≡ false →
+      false ≡ allWell (map portOf ps)
+  unfolding allWell
+  ill-here z b l e t = sym (sym so-far ∙ rw (from-place ps i z (omega arith), ← e, t) refl)
+
+  pub well-all : n ≤ i → true ≡ allWell (map portOf ps)
+  unfolding allWell
+  well-all l = sym (sym so-far ∙ rw (drop-of-length-le ps {i = i} (omega arith)) refl)
+
+-- The line levels, from the last port down.
+byte-level : (b : Bool) → boolByte b ≡ cond b 1 0
+byte-level true = refl
+byte-level false = refl
+
+levels-fit : (ps : List uart.Port) → levelsOf ps < 2 ^ length ps
+unfolding levelsOf
+levels-fit [] = omega arith
+levels-fit (p ∷ ps) =
+    let rest : levelsOf ps < 2 ^ length ps = levels-fit ps in
+    rw pow-suc (chosen (λ b (x : ℕ). x + 2 * levelsOf ps < 2 ^ length ps * 2) (p .level) 1 0 (omega arith) (omega arith))
+
+module _ (ps : List Apbuart) (i x : ℕ) (whole : length ps ≡ 6) (so-far : x ≡ levelsOf (map portOf (drop i ps))) where
+  levels-below : 0 < i → i ≤ 6 → x < 2 ^ 5
+  levels-below l k =
+      let left : length (map portOf (drop i ps)) ≡ 6 - i = rw (length-map, length-drop, whole) refl in
+      let small : levelsOf (map portOf (drop i ps)) < 2 ^ (6 - i) = rw (← left) (levels-fit (map portOf (drop i ps))) in
+      let more : 2 ^ (6 - i) ≤ 2 ^ 5 = pow-le-pow-right (omega arith) {i = 6 - i} {j = 5} (omega arith) in
+      omega arith
+
+  pub levels-double : 0 < i → i ≤ 6 → Fits w8 (x * 2)
+  levels-double l k = record { fits = omega (arith, levels-below l k) }
+
+  pub levels-join : (b : Bool) → 0 < i → i ≤ 6 → Fits w8 (x * 2 + boolByte b)
+  levels-join b l k =
+      record {
+        fits =
+            let small : x < 2 ^ 5 = levels-below l k in
+            rw byte-level (chosen (λ b (y : ℕ). x * 2 + y < 2 ^ 8) b 1 0 (omega arith) (omega arith));
+      }
+
+pub levels-none : (ps : List Apbuart) → length ps ≡ 6 → 0 ≡ levelsOf (map portOf (drop 6 ps))
+unfolding levelsOf
+levels-none ps whole = rw (drop-of-length-le ps {i = 6} (omega arith)) refl
+
+pub levels-more :
+    (ps : List Apbuart) (n i x : ℕ) (z : Apbuart) → length ps ≡ n → 0 < i → i ≤ n →
+    x ≡ levelsOf (map portOf (drop i ps)) →
+    x * 2 + boolByte (getD ps (i - 1) z .level) ≡ levelsOf (map portOf (drop (i - 1) ps))
+unfolding levelsOf
+levels-more ps n zero x z whole l k e = absurd (omega arith)
+levels-more ps n (suc j) x z whole l k e =
+    rw (suc-sub-suc j 0, sub-zero j, from-place ps j z (omega arith), e, byte-level)
+    (omega arith)
+
+pub levels-all :
+    (ps : List Apbuart) (i x : ℕ) → i ≤ 0 → x ≡ levelsOf (map portOf (drop i ps)) → x ≡ levelsOf (map portOf ps)
+levels-all ps zero x l e = e
+levels-all ps (suc j) x l e = absurd (omega arith)
+
+-- One port.
+there :
+    (ps : List Apbuart) (i : ℕ) (z : Apbuart) → i < length ps → portOf (getD ps i z) ≡ getD (map portOf ps) i uart.resetState
+there [] i z l = absurd (omega arith)
+there (p ∷ ps) zero z l = refl
+there (p ∷ ps) (suc i) z l = there ps i z (omega arith)
+
+module _ (ps : List Apbuart) (n i : ℕ) (whole : length ps ≡ n) where
+  pub port-there : (z : Apbuart) → i < n → portOf (getD ps i z) ≡ getD (map portOf ps) i uart.resetState
+  port-there z l = there ps i z (omega arith)
+
+  pub port-none : (p : uart.Port) → n ≤ i → p ≡ uart.resetState → p ≡ getD (map portOf ps) i uart.resetState
+  port-none p l e = e ∙ sym (List·getD-eq-default (map portOf ps) uart.resetState {n = i} (rw length-map (omega arith)))
+
+  pub port-not-set : (p : uart.Port) → n ≤ i → map portOf ps ≡ set (map portOf ps) i p
+  port-not-set p l = sym (set-beyond (map portOf ps) i p (rw length-map (omega arith)))

@@ -1,0 +1,57 @@
+-- The conditions of the refusal table, from the code's tests. Assumes nothing.
+use Prim.Native.Nat.{ℕ, zero, suc, _+_, _≤_, _<_}
+use mathlib.Core.Path.{_≡_, refl, sym, ap, _∙_}
+use mathlib.Core.Bool.{Bool, true, false, not, _||_, or-false, true≢false}
+use native.Mathlib.Omega.{arith}
+use lib.Dec.{eqb}
+use borrow.Author.Tests.{le-ltb, lt-ltb, eq-eqb, ne-eqb}
+use Rattle.devices.specs.Cases.{if-true, if-false, tests}
+use Rattle.bus.specs.Board.{end}
+use Rattle.bus.specs.Call.{isSize, nowhere, runsPast}
+use Rattle.bus.specs.declared.board.Window.{Window}
+use Rattle.bus.specs.declared.board.Found.{Found}
+use Rattle.bus.specs.declared.board.Found.the-variants.{In, Nowhere}
+
+-- a test of what a call did not say
+pub denied : (r b x : Bool) → r ≡ b → not r ≡ x → not b ≡ x
+denied r b x e t = rw (← e) t
+
+pub not-equal : (m n : ℕ) → (m ≡ n → ⊥) → not (eqb m n) ≡ true
+not-equal m n other = rw (ne-eqb m n other) refl
+
+pub not-other : (m n : ℕ) → m ≡ n → not (eqb m n) ≡ false
+not-other m n e = rw (eq-eqb m n e) refl
+
+-- the window of an address
+pub found-none : (f : Found) → f ≡ Nowhere → nowhere f ≡ true
+found-none f e = rw e refl
+
+pub found-one : (f : Found) (w : Window) → f ≡ In w → nowhere f ≡ false
+found-one f w e = rw e refl
+
+pub runs-past :
+    (f : Found) (w : Window) (address size e : ℕ) → f ≡ In w → e ≡ end w → e < address + size →
+    runsPast address size f ≡ true
+runs-past f w address size e g h l = rw (g, ← h) (lt-ltb e (address + size) l)
+
+pub runs-not-past :
+    (f : Found) (w : Window) (address size e : ℕ) → f ≡ In w → e ≡ end w → address + size ≤ e →
+    runsPast address size f ≡ false
+runs-not-past f w address size e g h l = rw (g, ← h) (le-ltb e (address + size) l)
+
+-- the size
+pub word : (n : ℕ) → n ≡ 4 → (eqb n 1 || eqb n 2) ≡ false
+word n e = rw e refl
+
+pub size-pos : (r : Bool) (n : ℕ) → r ≡ isSize n → not r ≡ false → 0 < n
+size-pos r zero e sized = absurd (true≢false (ap not (sym e) ∙ sized))
+size-pos r (suc n) e sized = omega arith
+
+pub narrow : (r : Bool) (n : ℕ) → r ≡ isSize n → not r ≡ false → (n ≡ 4 → ⊥) → (eqb n 1 || eqb n 2) ≡ true
+narrow true n e sized other =
+    let sized : true ≡ ((eqb n 1 || eqb n 2) || false) = rw (ne-eqb n 4 other) at e in
+    sym (sized ∙ or-false (eqb n 1 || eqb n 2))
+narrow false n e sized other = absurd (true≢false sized)
+
+pub ruleset refusing =
+    (if-true, if-false, denied, not-equal, not-other, found-none, found-one, runs-past, runs-not-past, word, narrow, tests)

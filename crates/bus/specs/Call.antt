@@ -1,0 +1,130 @@
+-- Each call on a machine: paper 01, "Refusal numbers" with its order, and "The slow run".
+pub mod Laws
+use Prim.Native.Nat.{ℕ, _+_, _-_, _%_}
+use mathlib.Core.Bool.{Bool, false, true, cond, not, _||_}
+use mathlib.Core.List.{List, [], _∷_}
+use lib.ListN.{length}
+use lib.Dec.{eqb, ltb, leb}
+use Rattle.devices.specs.Word.{bit}
+use Rattle.devices.specs.Refusal.{notRefused, receiverOff, queueFull, illFormed}
+use Rattle.devices.specs.Apbuart as uart
+use Rattle.devices.specs.Gptimer as gpt
+use Rattle.bus.specs.Refusal.{badSize, noWindow, pastWindow, misaligned, notAWord, noPort, badRecord}
+use Rattle.bus.specs.Board as board
+use Rattle.bus.specs.Machine.{Machine, Answer, wellFormed, resetState, portAt, withUnit}
+use Rattle.bus.specs.Machine.{refused, accepted, ofPort, ofSpan}
+use Rattle.bus.specs.declared.board.Device.{Device}
+use Rattle.bus.specs.declared.board.Device.the-variants as device
+use Rattle.bus.specs.declared.board.Found.{Found}
+use Rattle.bus.specs.declared.board.Found.the-variants.{In, Nowhere}
+
+-- "An access has a 32-bit address and a size in bytes." "Script records are such calls, a malformed one a refused call".
+pub data Call : Type 0 where
+  read : (address size : ℕ) → Call
+  write : (address size value : ℕ) → Call
+  offer : (port byte : ℕ) → Call
+  advance : (cycles : ℕ) → Call
+  skip : (limit : ℕ) → Call
+  reset : Call
+  malformed : Call
+
+-- "No. | Given exactly when"
+infix 70 _when_
+pub record Rule : Type 0 where
+  pub number : ℕ
+  pub given : Bool
+
+abbrev pub _when_ : ℕ → Bool → Rule
+number when given = record { number = number; given = given }
+
+-- the first number that is given; "0 | not refused"
+abbrev pub first : List Rule → ℕ
+first [] = notRefused
+first (r ∷ rs) = cond (r .given) (r .number) (first rs)
+
+-- not "size is not 1, 2 or 4"
+abbrev pub isSize : ℕ → Bool
+isSize size = eqb size 1 || eqb size 2 || eqb size 4
+
+-- "the address lies in no window"; `found` is the window that it lies in, if there is one
+abbrev pub nowhere : Found → Bool
+nowhere (In w) = false
+nowhere Nowhere = true
+
+-- "the access runs past its window's end"
+abbrev pub runsPast : ℕ → ℕ → Found → Bool
+runsPast address size (In w) = ltb (board.end w) (address + size)
+runsPast address size Nowhere = false
+
+-- What the table asks of a call.
+pub data Subject : Type 0 where
+  access : (address size : ℕ) (found : Found) → Subject
+  byteFor : (n : ℕ) → Subject
+  noCall : Subject
+  other : Subject
+
+-- "1 to 5 in that order for an access, 6 to 8 in that order for a byte"
+abbrev pub rules : Subject → Machine → List Rule
+rules (access address size found) m =
+    badSize when not (isSize size) ∷
+    noWindow when nowhere found ∷
+    pastWindow when runsPast address size found ∷
+    misaligned when not (eqb (address % size) 0) ∷
+    notAWord when (eqb size 1 || eqb size 2) ∷
+    []
+rules (byteFor n) m =
+    noPort when leb (m .board .ports) n ∷
+    receiverOff when not (bit uart.RE (portAt n m .control)) ∷
+    queueFull when leb uart.depth (length (portAt n m .queue)) ∷
+    []
+rules noCall m = badRecord when true ∷ []
+rules other m = []
+
+-- "Order (house): 9 first; then 10". "Every call on a machine is subject to 9, reset too."
+unfoldable pub refusal : Subject → Machine → ℕ
+refusal s m = first (illFormed when not (wellFormed m) ∷ rules s m)
+
+abbrev pub windowOf : ℕ → Machine → Found
+windowOf address m = board.windowAt address (m .board .windows)
+
+abbrev pub subject : Call → Machine → Subject
+subject (read address size) m = access address size (windowOf address m)
+subject (write address size value) m = access address size (windowOf address m)
+subject (offer n byte) m = byteFor n
+subject (advance cycles) m = other
+subject (skip limit) m = other
+subject reset m = other
+subject malformed m = noCall
+
+abbrev pub readDevice : Machine → Device → ℕ → Answer
+readDevice m (device.Port n) offset = ofPort n (uart.read offset (portAt n m)) m
+readDevice m device.TimerUnit offset = accepted (gpt.read offset (m .unit)) m
+
+abbrev pub writeDevice : ℕ → Machine → Device → ℕ → Answer
+writeDevice value m (device.Port n) offset = ofPort n (uart.write offset value (portAt n m)) m
+writeDevice value m device.TimerUnit offset = accepted 0 (withUnit (gpt.write offset value (m .unit)) m)
+
+-- An access reaches the device whose window its address lies in, at the offset from the window's base. One that lies in no
+-- window is refused, so what stands for it here is never asked for.
+abbrev pub reach : (Device → ℕ → Answer) → Machine → ℕ → Found → Answer
+reach reply m address (In w) = reply (w .device) (address - w .base)
+reach reply m address Nowhere = accepted 0 m
+
+-- "An access, an offered byte and a reset do what the sections above say. An advance does one cycle as often as its span
+-- says. A skip does one cycle after another while none had a pulse of any timer and the limit isn't reached." A malformed
+-- record is always refused.
+abbrev pub done : Call → Machine → Answer
+done (read address size) m = reach (readDevice m) m address (windowOf address m)
+done (write address size value) m = reach (writeDevice value m) m address (windowOf address m)
+done (offer n byte) m = ofPort n (uart.offer byte (portAt n m)) m
+done (advance cycles) m = ofSpan (gpt.advance cycles (m .unit)) m
+done (skip limit) m = ofSpan (gpt.skip limit (m .unit)) m
+done reset m = accepted 0 (resetState (m .board))
+done malformed m = accepted 0 m
+
+-- "A call refused by the table gets the refusal's answer and changes nothing."
+abbrev pub judged : ℕ → Answer → Machine → Answer
+judged number a m = cond (eqb number notRefused) a (refused number m)
+
+unfoldable pub answer : Call → Machine → Answer
+answer call m = judged (refusal (subject call m) m) (done call m) m

@@ -1,0 +1,158 @@
+-- What follows from the definitions of the calls, for every board. Assumes nothing.
+use Prim.Native.Nat.{ℕ, zero, suc, _-_}
+use mathlib.Core.Path.{_≡_, refl, sym, _∙_}
+use mathlib.Core.Bool.{Bool, true, false, cond, not, and-eq-true-iff}
+use mathlib.Core.List.{List, [], _∷_}
+use native.Mathlib.Decide.{decLt, ℕ-discrete}
+use native.Mathlib.Omega.{arith}
+use lib.Dec.{eqb, ltb, leb}
+use lib.ListN.{length, getD, set}
+use borrow.Author.Tests.{eq-eqb, ne-eqb, lt-ltb, le-ltb, lt-leb, le-leb}
+use Rattle.devices.specs.Word.{bit}
+use Rattle.devices.specs.Cases.{chosen}
+use Rattle.devices.specs.Refusal.{notRefused, receiverOff, queueFull, illFormed}
+use Rattle.devices.specs.Apbuart as uart
+use Rattle.devices.specs.Apbuart.{Port}
+use Rattle.devices.specs.Apbuart.Laws.{read-keeps, write-keeps, offer-keeps}
+use Rattle.devices.specs.Gptimer as gpt
+use Rattle.devices.specs.declared.gptimer.Gptimer.{Gptimer}
+use Rattle.devices.specs.declared.gptimer.Elapsed.{Elapsed}
+use Rattle.bus.specs.Machine.{Machine, portAt, withUnit, allWell, wellFormed, resetState}
+use Rattle.bus.specs.Machine.{Answer, refused, accepted, ofPort, ofSpan}
+use Rattle.bus.specs.Call as call
+use Rattle.bus.specs.Call.{Call, Subject, byteFor, refusal, windowOf, subject}
+use Rattle.bus.specs.Call.{readDevice, writeDevice, reach, done, answer}
+use Rattle.bus.specs.declared.board.Device.{Device}
+use Rattle.bus.specs.declared.board.Device.the-variants as device
+use Rattle.bus.specs.declared.board.Found.{Found}
+use Rattle.bus.specs.declared.board.Found.the-variants.{In, Nowhere}
+
+-- What a call does is one of these: what a port answers, which neither makes nor repairs an ill-formed port; an access of
+-- the timer unit; a span of time; a reset.
+module _
+    (P : Answer → Type 0) (m : Machine)
+    (ports : (n : ℕ) (a : uart.Answer) → uart.wellFormed (a .port) ≡ uart.wellFormed (portAt n m) → P (ofPort n a m))
+    (units : (value : ℕ) (u : Gptimer) → P (accepted value (withUnit u m))) (spans : (e : Elapsed) → P (ofSpan e m))
+    (resets : P (accepted 0 (resetState (m .board)))) where
+  reaches :
+      (reply : Device → ℕ → Answer) (address : ℕ) (found : Found) → ((d : Device) (offset : ℕ) → P (reply d offset)) →
+      P (reach reply m address found)
+  reaches reply address (In w) p = p (w .device) (address - w .base)
+  reaches reply address Nowhere p = units 0 (m .unit)
+
+  reads : (d : Device) (offset : ℕ) → P (readDevice m d offset)
+  reads (device.Port n) offset = ports n (uart.read offset (portAt n m)) (read-keeps offset (portAt n m))
+  reads device.TimerUnit offset = units (gpt.read offset (m .unit)) (m .unit)
+
+  writes : (value : ℕ) (d : Device) (offset : ℕ) → P (writeDevice value m d offset)
+  writes value (device.Port n) offset =
+      ports n (uart.write offset value (portAt n m)) (write-keeps offset value (portAt n m))
+  writes value device.TimerUnit offset = units 0 (gpt.write offset value (m .unit))
+
+  done-all : (c : Call) → P (done c m)
+  done-all (call.read address size) = reaches (readDevice m) address (windowOf address m) reads
+  done-all (call.write address size value) = reaches (writeDevice value m) address (windowOf address m) (writes value)
+  done-all (call.offer n byte) = ports n (uart.offer byte (portAt n m)) (offer-keeps byte (portAt n m))
+  done-all (call.advance cycles) = spans (gpt.advance cycles (m .unit))
+  done-all (call.skip limit) = spans (gpt.skip limit (m .unit))
+  done-all call.reset = resets
+  done-all call.malformed = units 0 (m .unit)
+
+-- What a call does has the number 0.
+pub done-number : (c : Call) (m : Machine) → done c m .refusal ≡ notRefused
+done-number c m = done-all (λ a. a .refusal ≡ notRefused) m (λ n a kept. refl) (λ value u. refl) (λ e. refl) refl c
+
+-- A call is answered by what it does, or refused.
+module _ (c : Call) (m : Machine) where
+  pub answer-done : refusal (subject c m) m ≡ notRefused → answer c m ≡ done c m
+  unfolding answer
+  answer-done z = rw (eq-eqb (refusal (subject c m) m) notRefused z) refl
+
+  pub answer-refused :
+      (number : ℕ) → number ≡ refusal (subject c m) m → (number ≡ notRefused → ⊥) → answer c m ≡ refused number m
+  unfolding answer
+  answer-refused number e differs = rw (← e, ne-eqb number notRefused differs) refl
+
+-- A well-formed machine has well-formed ports; one that is not there is at reset.
+pub well-at : (ps : List Port) (n : ℕ) → allWell ps ≡ true → uart.wellFormed (getD ps n uart.resetState) ≡ true
+unfolding allWell uart.wellFormed
+well-at [] n w = refl
+well-at (p ∷ ps) zero w = and-eq-true-iff (uart.wellFormed p) (allWell ps) .0 w .0
+well-at (p ∷ ps) (suc n) w = well-at ps n (and-eq-true-iff (uart.wellFormed p) (allWell ps) .0 w .1)
+
+-- 7 and 8 of the table are the port's own.
+room : (n depth : ℕ) → leb depth n ≡ not (ltb n depth)
+room n depth =
+    elim (decLt n depth) [
+      | yes l ↦ rw (lt-ltb n depth l, lt-leb depth n l) refl
+      | no l ↦ rw (le-ltb n depth (omega arith), le-leb depth n (omega arith)) refl
+    ]
+
+receive-number :
+    (on free : Bool) (p : Port) (a : uart.Answer) → a .refusal ≡ notRefused →
+    cond (not on) receiverOff (cond (not free) queueFull notRefused) ≡
+    cond on (cond free a (uart.refused queueFull p)) (uart.refused receiverOff p) .refusal
+receive-number true true p a e = sym e
+receive-number true false p a e = refl
+receive-number false free p a e = refl
+
+pub offer-number :
+    (n byte : ℕ) (m : Machine) → wellFormed m ≡ true → leb (m .board .ports) n ≡ false →
+    refusal (byteFor n) m ≡ uart.offer byte (portAt n m) .refusal
+unfolding refusal uart.offer
+offer-number n byte m w there =
+    rw (w, there, well-at (m .ports) n w, room (length (portAt n m .queue)) uart.depth)
+    (receive-number (bit uart.RE (portAt n m .control)) (ltb (length (portAt n m .queue)) uart.depth) (portAt n m) _ refl)
+
+-- A call's number is the table's.
+pub answer-number : (c : Call) (m : Machine) → answer c m .refusal ≡ refusal (subject c m) m
+unfolding answer
+answer-number c m =
+    elim (ℕ-discrete (refusal (subject c m) m) notRefused) [
+      | yes z ↦ rw (eq-eqb (refusal (subject c m) m) notRefused z, z) (done-number c m)
+      | no differs ↦ rw (ne-eqb (refusal (subject c m) m) notRefused differs) refl
+    ]
+
+-- An ill-formed machine gets 9, and comes back.
+pub ill-number : (s : Subject) (m : Machine) → wellFormed m ≡ false → illFormed ≡ refusal s m
+unfolding refusal
+ill-number s m ill = rw ill refl
+
+pub ill-refused : (c : Call) (m : Machine) → wellFormed m ≡ false → answer c m ≡ refused illFormed m
+ill-refused c m ill = answer-refused c m illFormed (ill-number (subject c m) m ill) (λ z. absurd (omega arith))
+
+-- A well-formed machine stays well formed.
+well-set :
+    (ps : List Port) (n : ℕ) (p : Port) → allWell ps ≡ true → uart.wellFormed p ≡ true → allWell (set ps n p) ≡ true
+unfolding allWell
+well-set [] n p w v = refl
+well-set (q ∷ ps) zero p w v = rw v (and-eq-true-iff (uart.wellFormed q) (allWell ps) .0 w .1)
+well-set (q ∷ ps) (suc n) p w v =
+    let both = and-eq-true-iff (uart.wellFormed q) (allWell ps) .0 w in
+    rw (both .0) (well-set ps n p (both .1) v)
+
+done-well : (c : Call) (m : Machine) → wellFormed m ≡ true → wellFormed (done c m .machine) ≡ true
+unfolding allWell uart.wellFormed
+done-well c m w =
+    done-all (λ a. wellFormed (a .machine) ≡ true) m
+    (λ n a kept. well-set (m .ports) n (a .port) w (kept ∙ well-at (m .ports) n w)) (λ value u. w) (λ e. w) refl c
+
+pub answer-keeps : (c : Call) (m : Machine) → wellFormed (answer c m .machine) ≡ wellFormed m
+unfolding answer
+answer-keeps c m = by-test (wellFormed m) refl
+  where
+    by-test : (b : Bool) → wellFormed m ≡ b → wellFormed (answer c m .machine) ≡ b
+    by-test true w =
+        chosen (λ b (a : Answer). wellFormed (a .machine) ≡ true) (eqb (refusal (subject c m) m) notRefused) _ _
+        (done-well c m w) w
+    by-test false ill = rw (ill-refused c m ill) ill
+
+-- On a well-formed machine an advance and a skip are the timer unit's.
+module _ (m : Machine) (w : wellFormed m ≡ true) (n : ℕ) where
+  pub advance-well : answer (call.advance n) m ≡ ofSpan (gpt.advance n (m .unit)) m
+  unfolding refusal
+  advance-well = answer-done (call.advance n) m (rw w refl)
+
+  pub skip-well : answer (call.skip n) m ≡ ofSpan (gpt.skip n (m .unit)) m
+  unfolding refusal
+  skip-well = answer-done (call.skip n) m (rw w refl)

@@ -1,0 +1,131 @@
+-- The machine, and what a call on it answers: paper 01, "Refusal numbers" and, for the fields of an answer, "Script and
+-- log".
+use Prim.Native.Nat.{ℕ, _+_, _*_}
+use mathlib.Core.Bool.{Bool, false, true, cond, _&&_}
+use mathlib.Core.List.{List, [], _∷_}
+use lib.ListN.{getD, set}
+use Rattle.devices.specs.Refusal.{notRefused}
+use Rattle.devices.specs.Apbuart as uart
+use Rattle.devices.specs.Apbuart.{Port}
+use Rattle.devices.specs.Gptimer as gpt
+use Rattle.devices.specs.declared.gptimer.Gptimer.{Gptimer}
+use Rattle.devices.specs.declared.gptimer.Elapsed.{Elapsed}
+use Rattle.bus.specs.declared.board.Board.{Board}
+
+-- "Two machines are equal when their registers, queued bytes oldest first, and line levels are equal." A machine is one of
+-- its board, whose windows and ports the bus goes by.
+pub record Machine : Type 0 where
+  pub board : Board
+  pub ports : List Port
+  pub unit : Gptimer
+
+-- port n; where there is none, a port at reset, on which no answer depends
+abbrev pub portAt : ℕ → Machine → Port
+portAt n m = getD (m .ports) n uart.resetState
+
+abbrev pub withPort : ℕ → Port → Machine → Machine
+withPort n p m = record { board = m .board; ports = set (m .ports) n p; unit = m .unit }
+
+abbrev pub withUnit : Gptimer → Machine → Machine
+withUnit u m = record { board = m .board; ports = m .ports; unit = u }
+
+-- "A state is ill formed exactly when a prescaler number exceeds 0xFFFF, a timer control has a bit outside 0x3B, a port's
+-- SCALER exceeds 0xFF, a port's CONTROL lacks bit 31, or a receive queue claims more than 8 bytes. A case that the chosen
+-- types exclude needs no test": a timer unit is never ill formed.
+unfoldable pub allWell : List Port → Bool
+allWell [] = true
+allWell (p ∷ ps) = uart.wellFormed p && allWell ps
+
+abbrev pub wellFormed : Machine → Bool
+wellFormed m = allWell (m .ports)
+
+-- "Each device has one reset state." "six APBUART serial ports, one GPTIMER unit": every machine has as many.
+abbrev pub resetState : Board → Machine
+resetState b =
+    record {
+      board = b;
+      ports =
+          uart.resetState ∷ uart.resetState ∷ uart.resetState ∷ uart.resetState ∷ uart.resetState ∷ uart.resetState ∷ [];
+      unit = gpt.resetState;
+    }
+
+-- What a call answers: "0 refusal number; 1 is 1 if a byte was emitted; 2 that byte, else 0; 3 the line levels after it,
+-- bit p for port p; 4-7 value read; 8-15 cycles passed; 16-47 the four pulse counts, timer 1 first"; and the machine after
+-- it.
+pub record Answer : Type 0 where
+  pub refusal : ℕ
+  pub emitted : Bool
+  pub byte : ℕ
+  pub levels : ℕ
+  pub value : ℕ
+  pub cycles : ℕ
+  pub pulses : List ℕ
+  pub machine : Machine
+
+unfoldable pub levelsOf : List Port → ℕ
+levelsOf [] = 0
+levelsOf (p ∷ ps) = cond (p .level) 1 0 + 2 * levelsOf ps
+
+abbrev pub levels : Machine → ℕ
+levels m = levelsOf (m .ports)
+
+abbrev pub noPulses : List ℕ
+noPulses = 0 ∷ 0 ∷ 0 ∷ 0 ∷ []
+
+-- "A refusal returns the same machine, value 0, no emitted byte, 0 cycles and four pulse counts of 0." "Levels are logged
+-- for every record, refused, malformed or cut short too."
+abbrev pub refused : ℕ → Machine → Answer
+refused number m =
+    record {
+      refusal = number;
+      emitted = false;
+      byte = 0;
+      levels = levels m;
+      value = 0;
+      cycles = 0;
+      pulses = noPulses;
+      machine = m;
+    }
+
+-- "Anything else that a record's kind does not produce is 0, here and in the call's own answer." An access of the timer
+-- unit, and a reset:
+abbrev pub accepted : ℕ → Machine → Answer
+accepted value m =
+    record {
+      refusal = notRefused;
+      emitted = false;
+      byte = 0;
+      levels = levels m;
+      value = value;
+      cycles = 0;
+      pulses = noPulses;
+      machine = m;
+    }
+
+-- an access or a byte that port n of the machine answered
+abbrev pub ofPort : ℕ → uart.Answer → Machine → Answer
+ofPort n a m =
+    record {
+      refusal = notRefused;
+      emitted = a .emitted;
+      byte = a .byte;
+      levels = levels (withPort n (a .port) m);
+      value = a .value;
+      cycles = 0;
+      pulses = noPulses;
+      machine = withPort n (a .port) m;
+    }
+
+-- a span of time that the timer unit of the machine passed
+abbrev pub ofSpan : Elapsed → Machine → Answer
+ofSpan e m =
+    record {
+      refusal = notRefused;
+      emitted = false;
+      byte = 0;
+      levels = levels m;
+      value = 0;
+      cycles = e .cycles;
+      pulses = e .pulses;
+      machine = withUnit (e .unit) m;
+    }

@@ -1,0 +1,23 @@
+-- What follows from the definition of the slow run. Assumes nothing.
+use Prim.Native.Nat.{suc}
+use mathlib.Core.Path.{_≡_, refl, ap}
+use mathlib.Core.List.{List, [], _∷_, _++_}
+use lib.ListN.{length}
+use Rattle.bus.specs.Machine.{Machine, Answer}
+use Rattle.bus.specs.Call.{Call, answer}
+use Rattle.bus.specs.SlowRun.{answers, after}
+
+-- The slow run of two lists, one after the other.
+pub answers-append : (cs ds : List Call) (m : Machine) → answers (cs ++ ds) m ≡ answers cs m ++ answers ds (after cs m)
+answers-append [] ds m = refl
+answers-append (c ∷ cs) ds m =
+    ap {B = List Answer} (λ rest. answer c m ∷ rest) (answers-append cs ds (answer c m .machine))
+
+pub after-append : (cs ds : List Call) (m : Machine) → after (cs ++ ds) m ≡ after ds (after cs m)
+after-append [] ds m = refl
+after-append (c ∷ cs) ds m = after-append cs ds (answer c m .machine)
+
+-- It answers each call.
+pub length-answers : (cs : List Call) (m : Machine) → length (answers cs m) ≡ length cs
+length-answers [] m = refl
+length-answers (c ∷ cs) m = ap suc (length-answers cs (answer c m .machine))

@@ -1,0 +1,142 @@
+-- What is claimed of the calls on a machine, for the demands on the model (README.md). Most claims are about any answers and
+-- machines that meet the calls' contracts (`Conforms`, View.antt), so about what the code promises; the last ones are about
+-- the definitions. Assumes nothing.
+use Prim.Native.Nat.{ℕ, _<_, _≤_}
+use mathlib.Core.Path.{_≡_, refl, sym, ap, _∙_}
+use mathlib.Core.Bool.{true, false, _&&_}
+use mathlib.Core.List.{List, [], _∷_, map}
+use native.Mathlib.Omega.{arith}
+use lib.Dec.{leb}
+use lib.ListN.{length, getD}
+use Rattle.devices.specs.Refusal.{notRefused, illFormed}
+use Rattle.devices.specs.Apbuart as uart
+use Rattle.devices.specs.Apbuart.Laws.{read-accepted, write-accepted}
+use Rattle.devices.specs.Gptimer as gpt
+use Rattle.devices.specs.Gptimer.{anyPulse}
+use Rattle.devices.specs.Gptimer.Laws.{skip-least}
+use Rattle.devices.specs.declared.gptimer.Elapsed.{Elapsed}
+use Rattle.bus.specs.Board.{gr712rc, holds, allApart, allThere}
+use Rattle.bus.specs.Board.Laws.{one-window}
+use Rattle.bus.specs.Machine as bus
+use Rattle.bus.specs.Machine.{wellFormed}
+use Rattle.bus.specs.Call.{Call, advance, skip, byteFor, refusal, windowOf, subject, answer}
+use Rattle.bus.specs.Call.Laws as laws
+use Rattle.bus.specs.SlowRun.{answers, after}
+use Rattle.bus.specs.Cuts.{Entry, uncutCalls, cutCalls, rejoined}
+use Rattle.bus.specs.Cuts.Laws.{slow-cut}
+use Rattle.bus.specs.View.{machineOf, answerOf, Conforms}
+use Rattle.bus.specs.declared.board.Window.{Window}
+use Rattle.bus.specs.declared.board.Found.the-variants.{In}
+use Rattle.bus.specs.declared.machine.Machine.{Machine}
+use Rattle.bus.specs.declared.machine.Answer.{Answer}
+
+-- A list of calls, each on the machine that the one before returned, with their answers and the last machine.
+pub data Trace : Machine → List Call → List Answer → Machine → Type 0 where
+  stop : {m : Machine} → Trace m [] [] m
+  step :
+      {m last : Machine} {c : Call} {cs : List Call} {a : Answer} {rs : List Answer} → Conforms m c a →
+      Trace (a .machine) cs rs last → Trace m (c ∷ cs) (a ∷ rs) last
+
+-- Demand 3: every answer equals that of the slow run in single cycles. The answers to a list of calls and the last machine
+-- are the slow run's, whatever the calls, refused ones included, and whatever the first machine.
+pub list-claim :
+    {m last : Machine} {cs : List Call} {rs : List Answer} → Trace m cs rs last →
+    (map answerOf rs ≡ answers cs (machineOf m)) × (machineOf last ≡ after cs (machineOf m))
+list-claim stop = (refl, refl)
+list-claim (step {a} h t) =
+    let rest = list-claim t in
+    rw (← h .answer) (ap {B = List bus.Answer} (λ others. answerOf a ∷ others) (rest .0), rest .1)
+
+-- Demand 3: time may be cut anywhere. Replace any advances of a list, each by one or more spans that add up to its own, and
+-- begin with an equal machine: every other answer and the last machine are those of the uncut list, and the spans' cycles
+-- and each timer's pulses in them add up to the uncut advance's. (Each span's own answer is the slow run's, by the list
+-- claim.)
+pub cut-claim :
+    (es : List Entry) {m n last last' : Machine} {rs ss : List Answer} → machineOf m ≡ machineOf n →
+    Trace m (uncutCalls es) rs last → Trace n (cutCalls es) ss last' →
+    (map answerOf rs ≡ rejoined es (map answerOf ss)) × (machineOf last ≡ machineOf last')
+cut-claim es {m} e t u =
+    rw (list-claim t .0, list-claim u .0, list-claim t .1, list-claim u .1, ← e) (slow-cut es (machineOf m))
+
+-- "An idle skip takes a limit and passes the fewest cycles, one or more, whose last has a pulse; if there is none within
+-- the limit it passes the limit." No fewer cycles have a pulse, and if fewer than the limit are passed, they have one: it
+-- is in the last of them. (`advance 0` has none, so they are one or more.)
+pub record Fewest (limit : ℕ) (m : bus.Machine) (a : bus.Answer) : Type 0 where
+  pub advances : a ≡ answer (advance (a .cycles)) m
+  pub within : a .cycles ≤ limit
+  pub quiet : (k : ℕ) → k < a .cycles → anyPulse (answer (advance k) m .pulses) ≡ false
+  pub pulse : a .cycles < limit → anyPulse (answer (advance (a .cycles)) m .pulses) ≡ true
+
+pub skip-claim :
+    {m : Machine} {limit : ℕ} {a : Answer} → wellFormed (machineOf m) ≡ true → Conforms m (skip limit) a →
+    Fewest limit (machineOf m) (answerOf a)
+skip-claim {m} {limit} w h =
+    let least = skip-least limit (m .unit) in
+    let passed = gpt.skip limit (m .unit) .cycles in
+    let spans = laws.advance-well (machineOf m) w in
+    rw (h .answer, laws.skip-well (machineOf m) w limit)
+    (record {
+      advances = ap (λ (e : Elapsed). bus.ofSpan e (machineOf m)) (least .advances) ∙ sym (spans passed);
+      within = least .within;
+      quiet = λ k l. rw (spans k) (least .quiet k l);
+      pulse = λ l. rw (spans passed) (least .pulse l);
+    })
+
+-- Every call on a well-formed machine leaves a well-formed machine.
+pub well-claim :
+    {m : Machine} {c : Call} {a : Answer} → Conforms m c a → wellFormed (machineOf m) ≡ true →
+    wellFormed (machineOf (a .machine)) ≡ true
+well-claim {m} {c} h w =
+    ap (λ (x : bus.Answer). wellFormed (x .machine)) (h .answer) ∙ laws.answer-keeps c (machineOf m) ∙ w
+
+-- "Every call on a machine is subject to 9, reset too." "An ill-formed machine comes back alike in every field."
+pub ill-claim :
+    {m : Machine} {c : Call} {a : Answer} → Conforms m c a → wellFormed (machineOf m) ≡ false →
+    (a .refusal ≡ illFormed) × (a .machine ≡ m)
+ill-claim {m} {c} {a} h ill =
+    let nine : a .refusal ≡ illFormed =
+    ap (λ (x : bus.Answer). x .refusal) (h .answer ∙ laws.ill-refused c (machineOf m) ill) in
+    (nine, h .same (λ z. let no : 9 ≡ 0 = sym nine ∙ z in absurd (omega arith)))
+
+-- Demand 2: a call is refused under the table's condition and no other. Its number is the table's.
+pub number-claim :
+    {m : Machine} {c : Call} {a : Answer} → Conforms m c a →
+    a .refusal ≡ refusal (subject c (machineOf m)) (machineOf m)
+number-claim {m} {c} h = ap (λ (x : bus.Answer). x .refusal) (h .answer) ∙ laws.answer-number c (machineOf m)
+
+-- Demand 1: a refusal changes nothing. "A refusal returns the same machine, value 0, no emitted byte, 0 cycles and four pulse
+-- counts of 0", and the levels as they are.
+pub refusal-claim :
+    {m : Machine} {c : Call} {a : Answer} → Conforms m c a → (a .refusal ≡ notRefused → ⊥) →
+    (answerOf a ≡ bus.refused (a .refusal) (machineOf m)) × (a .machine ≡ m)
+refusal-claim {m} {c} {a} h refused =
+    (h .answer ∙ laws.answer-refused c (machineOf m) (a .refusal) (number-claim h) refused, h .same refused)
+
+-- Of the definitions: what the table accepts, the port accepts too, and it refuses a byte as the table does. So nothing is
+-- lost where an accepted call's answer leaves out the port's own number.
+pub port-claim :
+    (m : bus.Machine) (n offset value byte : ℕ) → wellFormed m ≡ true →
+    (uart.read offset (bus.portAt n m) .refusal ≡ notRefused) ×
+    (uart.write offset value (bus.portAt n m) .refusal ≡ notRefused) ×
+    (leb (m .board .ports) n ≡ false → uart.offer byte (bus.portAt n m) .refusal ≡ refusal (byteFor n) m)
+port-claim m n offset value byte w =
+    let sound = laws.well-at (m .ports) n w in (
+      read-accepted (bus.portAt n m) sound offset,
+      write-accepted (bus.portAt n m) sound offset value,
+      λ there. sym (laws.offer-number n byte m w there),
+    )
+
+-- Of the board's table, by one computed test: no two windows overlap, each window of a port is one of a port that the board
+-- has, and a machine has a place for each of them.
+pub table-claim :
+    (m : Machine) →
+    (let b = machineOf m .board in
+    (allApart (b .windows) && allThere (b .ports) (b .windows) && leb (b .ports) (length (bus.resetState b .ports))) ≡ true)
+unfolding gr712rc
+table-claim m = refl
+
+-- So an address lies in one window at most: any window of a table without overlaps that holds it is the one that is reached.
+pub window-claim :
+    (m : bus.Machine) (address i : ℕ) (z : Window) → allApart (m .board .windows) ≡ true → i < length (m .board .windows) →
+    holds address (getD (m .board .windows) i z) ≡ true → windowOf address m ≡ In (getD (m .board .windows) i z)
+window-claim m = one-window (m .board .windows)

@@ -1,0 +1,120 @@
+// A board: how many ports it has, and the windows that its devices sit in. The rules of the bus are the same for every
+// board; what differs is the table. A table with fewer windows has some of length 0 at its end, in which no address lies.
+ghost use mathlib.Core.Path.{_≡_};
+ghost use Prim.Native.Nat.{_+_, _-_};
+ghost use Rattle.bus.specs.Board as board;
+
+// What answers in a window.
+pub enum Device {
+    Port(u8),
+    TimerUnit,
+}
+
+pub struct Window {
+    pub base: u32,
+    pub length: u32,
+    pub device: Device,
+}
+
+// Where an address lies.
+pub enum Found {
+    In(Window),
+    Nowhere,
+}
+
+pub struct Board {
+    // How many ports: they are 0 to one below this.
+    pub ports: u8,
+    pub windows: [Window; Board::WINDOWS],
+}
+
+impl Window {
+    pub const LENGTH: u32 = 0x100;
+
+    // The first address behind the window, which may lie past the last 32-bit one.
+    pub(crate) fn end(self) -> u64
+        ensures { λ r. ⌜ r ≡ board.end self ⌝ }
+    {
+        self.base as u64 + self.length as u64
+    }
+
+    pub(crate) fn holds(self, address: u32) -> bool
+        ensures { λ r. ⌜ r ≡ board.holds address self ⌝ }
+    {
+        if self.base <= address {
+            (address as u64) < self.end()
+        } else {
+            false
+        }
+    }
+
+    // An address's offset in the window. No address that was found in it lies below its base.
+    pub(crate) fn offset(self, address: u32) -> u32
+        ensures { λ r. ⌜ r ≡ address - self .base ⌝ }
+    {
+        if self.base <= address {
+            address - self.base
+        } else {
+            0
+        }
+    }
+}
+
+impl Board {
+    pub const WINDOWS: usize = 7;
+
+    pub const GR712RC: Board = Board {
+        ports: 6,
+        windows: [
+            Window {
+                base: 0x8000_0100,
+                length: Window::LENGTH,
+                device: Device::Port(0),
+            },
+            Window {
+                base: 0x8010_0100,
+                length: Window::LENGTH,
+                device: Device::Port(1),
+            },
+            Window {
+                base: 0x8010_0200,
+                length: Window::LENGTH,
+                device: Device::Port(2),
+            },
+            Window {
+                base: 0x8010_0300,
+                length: Window::LENGTH,
+                device: Device::Port(3),
+            },
+            Window {
+                base: 0x8010_0400,
+                length: Window::LENGTH,
+                device: Device::Port(4),
+            },
+            Window {
+                base: 0x8010_0500,
+                length: Window::LENGTH,
+                device: Device::Port(5),
+            },
+            Window {
+                base: 0x8000_0300,
+                length: Window::LENGTH,
+                device: Device::TimerUnit,
+            },
+        ],
+    };
+
+    pub(crate) fn window_at(self, address: u32) -> Found
+        ensures { λ r. ⌜ r ≡ board.windowAt address (self .windows) ⌝ }
+    {
+        let mut i = 0;
+        while i < Self::WINDOWS {
+            let window = self.windows[i];
+            if window.holds(address) {
+                return Found::In(window);
+            }
+            i += 1;
+        }
+        Found::Nowhere
+    }
+}

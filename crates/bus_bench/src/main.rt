@@ -1,0 +1,70 @@
+// A million calls on the compiled machine, each on the machine that the one before returned, for `tools/bench` to time. The
+// first byte of standard input says which calls. The program writes the sum of the values that they read and of the cycles
+// that they passed, so that none can be left out.
+use bus::machine::Answer;
+use bus::machine::Machine;
+use libc::STDIN_FILENO;
+use libc::STDOUT_FILENO;
+
+const CALLS: u64 = 1_000_000;
+
+fn main() {
+    let mut input = io::buffer();
+    io::read_full(STDIN_FILENO, &mut input);
+    io::print_decimal(STDOUT_FILENO, calls(input[0]));
+    io::write_all(STDOUT_FILENO, b"\n");
+}
+
+fn calls(which: u8) -> u64 {
+    let mut machine = Machine::reset_state();
+    let mut sum = 0;
+    let mut left = CALLS;
+    while 0 < left {
+        left -= 1;
+        let answer = call(machine, which, left);
+        machine = answer.machine;
+        sum = std::num::wrapping_add_u64(sum, answer.value as u64);
+        sum = std::num::wrapping_add_u64(sum, answer.cycles);
+    }
+    sum
+}
+
+// A register of port 1, 2, 3, 4 or 5.
+fn control(turn: u64) -> u32 {
+    0x8010_0108 + (turn % 5) as u32 * 0x100
+}
+
+fn scaler(turn: u64) -> u32 {
+    0x8010_010C + (turn % 5) as u32 * 0x100
+}
+
+fn call(machine: Machine, which: u8, turn: u64) -> Answer {
+    match which {
+        // A read of a port's CONTROL, of a control register of the timer unit, and of no window.
+        b'f' => machine.read(control(turn), 4),
+        b'g' => machine.read(0x8000_0308 + (turn % 4) as u32 * 0x10, 4),
+        b'h' => machine.read(0x8000_0400 + (turn % 4) as u32 * 0x10, 4),
+        // A write to a port's SCALER.
+        b'i' => machine.write(scaler(turn), 4, (turn % 256) as u32),
+        // A byte that is refused.
+        b'j' => machine.offer(5, 0x41),
+        // An advance inside the prescaler's count, and a short skip.
+        b'k' => machine.advance(1),
+        b'l' => machine.skip(10),
+        // A call that only hands the machine back, to be taken off the others' time.
+        _ => unmoved(machine),
+    }
+}
+
+fn unmoved(machine: Machine) -> Answer {
+    Answer {
+        refusal: 0,
+        emitted: false,
+        byte: 0,
+        levels: 0,
+        value: 0,
+        cycles: 0,
+        pulses: [0; 4],
+        machine,
+    }
+}

@@ -1,0 +1,240 @@
+// Plays calls on the compiled machine and writes each with its whole answer. Standard input, of at most 4096 bytes, has one
+// call a line, its numbers in hexadecimal: `r SIZE ADDRESS` reads, `w SIZE ADDRESS VALUE` writes, `o PORT BYTE` offers a
+// byte, `a CYCLES` advances, `s LIMIT` skips, `x` resets, `m` stands for a malformed script record, `l` asks for the line
+// levels alone. `i PORT` takes bit 31 from that port's CONTROL, which no call can do: the machine is then ill formed. A line
+// that begins with # says something and begins with a machine at reset; any other line is answered with a question mark.
+ghost use Prim.Native.Nat.{_≤_};
+use bus::machine::Answer;
+use bus::machine::Machine;
+use libc::STDIN_FILENO;
+use libc::STDOUT_FILENO;
+
+// The line as far as it is read: the byte that it begins with, and the last three numbers in it.
+struct Line {
+    call: u8,
+    first: u64,
+    second: u64,
+    third: u64,
+}
+
+fn main() {
+    let mut input = io::buffer();
+    let count = io::read_full(STDIN_FILENO, &mut input);
+    play(&input, count);
+}
+
+fn play(input: &[u8; 4096], count: usize)
+    requires { ⌜ count ≤ 4096 ⌝ }
+{
+    let mut machine = Machine::reset_state();
+    let mut line = begin();
+    let mut i = 0;
+    while i < count {
+        let byte = input[i];
+        i += 1;
+        if byte == b'\n' {
+            machine = call(machine, line);
+            line = begin();
+        } else {
+            line = line.read(byte);
+        }
+    }
+    call(machine, line);
+}
+
+fn begin() -> Line {
+    Line {
+        call: 0,
+        first: 0,
+        second: 0,
+        third: 0,
+    }
+}
+
+impl Line {
+    fn read(mut self, byte: u8) -> Self {
+        if self.call == 0 {
+            self.call = byte;
+            return self;
+        }
+        if byte == b' ' {
+            self.first = self.second;
+            self.second = self.third;
+            self.third = 0;
+            return self;
+        }
+        if b'0' <= byte {
+            self.third = self.third % 0x1000_0000_0000_0000 * 16 + digit(byte);
+        }
+        self
+    }
+}
+
+fn digit(byte: u8) -> u64
+    ensures { λ r. ⌜ r ≤ 15 ⌝ }
+{
+    if b'A' <= byte {
+        return (byte as u64 % 32 + 9) % 16;
+    }
+    byte as u64 % 16
+}
+
+fn word(n: u64) -> u32 {
+    (n % 0x1_0000_0000) as u32
+}
+
+fn byte(n: u64) -> u8 {
+    (n % 0x100) as u8
+}
+
+fn call(machine: Machine, line: Line) -> Machine {
+    let kind = line.call;
+    match kind {
+        b'r' => read(machine, byte(line.second), word(line.third)),
+        b'w' => write(
+            machine,
+            byte(line.first),
+            word(line.second),
+            word(line.third),
+        ),
+        b'o' => offer(machine, byte(line.second), byte(line.third)),
+        b'a' => advance(machine, line.third),
+        b's' => skip(machine, line.third),
+        b'x' => reset(machine),
+        b'm' => malformed(machine),
+        b'l' => levels(machine),
+        b'i' => spoil(machine, line.third),
+        b'#' => heading(),
+        0 => machine,
+        _ => unknown(machine),
+    }
+}
+
+fn unknown(machine: Machine) -> Machine {
+    say(b"  ?\n");
+    machine
+}
+
+fn heading() -> Machine {
+    say(b"at reset\n");
+    Machine::reset_state()
+}
+
+fn read(machine: Machine, size: u8, address: u32) -> Machine {
+    say(b"  read ");
+    access(size, address);
+    answered(machine.read(address, size))
+}
+
+fn write(machine: Machine, size: u8, address: u32, value: u32) -> Machine {
+    say(b"  write ");
+    access(size, address);
+    say(b" ");
+    hex(value, 8);
+    answered(machine.write(address, size, value))
+}
+
+fn access(size: u8, address: u32) {
+    decimal(size as u64);
+    say(b" at ");
+    hex(address, 8);
+}
+
+fn offer(machine: Machine, port: u8, byte: u8) -> Machine {
+    say(b"  offer ");
+    decimal(port as u64);
+    say(b" ");
+    hex(byte as u32, 2);
+    answered(machine.offer(port, byte))
+}
+
+fn advance(machine: Machine, cycles: u64) -> Machine {
+    say(b"  advance ");
+    decimal(cycles);
+    answered(machine.advance(cycles))
+}
+
+fn skip(machine: Machine, limit: u64) -> Machine {
+    say(b"  skip ");
+    decimal(limit);
+    answered(machine.skip(limit))
+}
+
+fn reset(machine: Machine) -> Machine {
+    say(b"  reset");
+    answered(machine.reset())
+}
+
+fn malformed(machine: Machine) -> Machine {
+    say(b"  malformed");
+    answered(machine.malformed())
+}
+
+fn levels(machine: Machine) -> Machine {
+    say(b"  levels ");
+    hex(machine.levels() as u32, 2);
+    say(b"\n");
+    machine
+}
+
+fn spoil(mut machine: Machine, n: u64) -> Machine {
+    if n < 6 {
+        let i = n as usize;
+        machine.ports[i].control = 0;
+    }
+    say(b"  CONTROL of port ");
+    decimal(n);
+    say(b" without bit 31\n");
+    machine
+}
+
+// Writes the answer and hands on the machine.
+fn answered(answer: Answer) -> Machine {
+    let counts = answer.pulses;
+    say(b": number ");
+    decimal(answer.refusal as u64);
+    emitted(answer.emitted, answer.byte);
+    say(b", levels ");
+    hex(answer.levels as u32, 2);
+    say(b", value ");
+    hex(answer.value, 8);
+    passed(answer.cycles, counts);
+    answer.machine
+}
+
+fn emitted(emitted: bool, byte: u8) {
+    say(b", emitted ");
+    decimal(emitted as u64);
+    say(b" ");
+    hex(byte as u32, 2);
+}
+
+fn passed(cycles: u64, counts: [u64; 4]) {
+    say(b", cycles ");
+    decimal(cycles);
+    say(b", pulses ");
+    decimal(counts[0]);
+    say(b" ");
+    decimal(counts[1]);
+    pulses(counts[2], counts[3]);
+}
+
+fn pulses(third: u64, fourth: u64) {
+    say(b" ");
+    decimal(third);
+    say(b" ");
+    decimal(fourth);
+    say(b"\n");
+}
+
+fn say(text: &[u8]) {
+    io::write_all(STDOUT_FILENO, text);
+}
+
+fn decimal(n: u64) {
+    io::print_decimal(STDOUT_FILENO, n);
+}
+
+fn hex(n: u32, digits: usize) {
+    io::print_hex(STDOUT_FILENO, n as u64, digits);
+}
