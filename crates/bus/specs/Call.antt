@@ -42,7 +42,7 @@ abbrev pub first : List Rule → ℕ
 first [] = notRefused
 first (r ∷ rs) = cond (r .given) (r .number) (first rs)
 
--- not "size is not 1, 2 or 4"
+-- "1, 2 or 4"
 abbrev pub isSize : ℕ → Bool
 isSize size = eqb size 1 || eqb size 2 || eqb size 4
 
@@ -56,11 +56,12 @@ abbrev pub runsPast : ℕ → ℕ → Found → Bool
 runsPast address size (In w) = ltb (board.end w) (address + size)
 runsPast address size Nowhere = false
 
--- What the table asks of a call.
+-- What of a call the table's conditions are about. On any other call than an access, a byte and a malformed record only 9
+-- can be given.
 pub data Subject : Type 0 where
   access : (address size : ℕ) (found : Found) → Subject
   byteFor : (n : ℕ) → Subject
-  noCall : Subject
+  unreadable : Subject
   other : Subject
 
 -- "1 to 5 in that order for an access, 6 to 8 in that order for a byte"
@@ -77,7 +78,7 @@ rules (byteFor n) m =
     receiverOff when not (bit uart.RE (portAt n m .control)) ∷
     queueFull when leb uart.depth (length (portAt n m .queue)) ∷
     []
-rules noCall m = badRecord when true ∷ []
+rules unreadable m = badRecord when true ∷ []
 rules other m = []
 
 -- "Order (house): 9 first; then 10". "Every call on a machine is subject to 9, reset too."
@@ -94,8 +95,9 @@ subject (offer n byte) m = byteFor n
 subject (advance cycles) m = other
 subject (skip limit) m = other
 subject reset m = other
-subject malformed m = noCall
+subject malformed m = unreadable
 
+-- A device answers an access as its own definitions say.
 abbrev pub readDevice : Machine → Device → ℕ → Answer
 readDevice m (device.Port n) offset = ofPort n (uart.read offset (portAt n m)) m
 readDevice m device.TimerUnit offset = accepted (gpt.read offset (m .unit)) m

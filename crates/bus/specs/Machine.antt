@@ -12,8 +12,8 @@ use Rattle.devices.specs.declared.gptimer.Gptimer.{Gptimer}
 use Rattle.devices.specs.declared.gptimer.Elapsed.{Elapsed}
 use Rattle.bus.specs.declared.board.Board.{Board}
 
--- "Two machines are equal when their registers, queued bytes oldest first, and line levels are equal." A machine is one of
--- its board, whose windows and ports the bus goes by.
+-- "Two machines are equal when their registers, queued bytes oldest first, and line levels are equal." Its board is part of a
+-- machine: the bus goes by that board's windows and ports.
 pub record Machine : Type 0 where
   pub board : Board
   pub ports : List Port
@@ -62,6 +62,7 @@ pub record Answer : Type 0 where
   pub pulses : List ℕ
   pub machine : Machine
 
+-- "3 the line levels after it, bit p for port p"
 unfoldable pub levelsOf : List Port → ℕ
 levelsOf [] = 0
 levelsOf (p ∷ ps) = cond (p .level) 1 0 + 2 * levelsOf ps
@@ -69,63 +70,35 @@ levelsOf (p ∷ ps) = cond (p .level) 1 0 + 2 * levelsOf ps
 abbrev pub levels : Machine → ℕ
 levels m = levelsOf (m .ports)
 
+abbrev pub answered : (refusal : ℕ) (emitted : Bool) (byte value cycles : ℕ) (pulses : List ℕ) (after : Machine) → Answer
+answered refusal emitted byte value cycles pulses after =
+    record {
+      refusal = refusal;
+      emitted = emitted;
+      byte = byte;
+      levels = levels after;
+      value = value;
+      cycles = cycles;
+      pulses = pulses;
+      machine = after;
+    }
+
 abbrev pub noPulses : List ℕ
 noPulses = 0 ∷ 0 ∷ 0 ∷ 0 ∷ []
 
 -- "A refusal returns the same machine, value 0, no emitted byte, 0 cycles and four pulse counts of 0." "Levels are logged
 -- for every record, refused, malformed or cut short too."
 abbrev pub refused : ℕ → Machine → Answer
-refused number m =
-    record {
-      refusal = number;
-      emitted = false;
-      byte = 0;
-      levels = levels m;
-      value = 0;
-      cycles = 0;
-      pulses = noPulses;
-      machine = m;
-    }
+refused number m = answered number false 0 0 0 noPulses m
 
 -- "Anything else that a record's kind does not produce is 0, here and in the call's own answer." An access of the timer
--- unit, and a reset:
+-- unit, with the value that it read or 0, or a reset; an access or a byte that port n of the machine answered; and a span of
+-- time that its timer unit passed:
 abbrev pub accepted : ℕ → Machine → Answer
-accepted value m =
-    record {
-      refusal = notRefused;
-      emitted = false;
-      byte = 0;
-      levels = levels m;
-      value = value;
-      cycles = 0;
-      pulses = noPulses;
-      machine = m;
-    }
+accepted value after = answered notRefused false 0 value 0 noPulses after
 
--- an access or a byte that port n of the machine answered
 abbrev pub ofPort : ℕ → uart.Answer → Machine → Answer
-ofPort n a m =
-    record {
-      refusal = notRefused;
-      emitted = a .emitted;
-      byte = a .byte;
-      levels = levels (withPort n (a .port) m);
-      value = a .value;
-      cycles = 0;
-      pulses = noPulses;
-      machine = withPort n (a .port) m;
-    }
+ofPort n a m = answered notRefused (a .emitted) (a .byte) (a .value) 0 noPulses (withPort n (a .port) m)
 
--- a span of time that the timer unit of the machine passed
 abbrev pub ofSpan : Elapsed → Machine → Answer
-ofSpan e m =
-    record {
-      refusal = notRefused;
-      emitted = false;
-      byte = 0;
-      levels = levels m;
-      value = 0;
-      cycles = e .cycles;
-      pulses = e .pulses;
-      machine = withUnit (e .unit) m;
-    }
+ofSpan e m = answered notRefused false 0 0 (e .cycles) (e .pulses) (withUnit (e .unit) m)

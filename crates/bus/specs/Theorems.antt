@@ -96,7 +96,7 @@ pub ill-claim :
 ill-claim {m} {c} {a} h ill =
     let nine : a .refusal ≡ illFormed =
     ap (λ (x : bus.Answer). x .refusal) (h .answer ∙ laws.ill-refused c (machineOf m) ill) in
-    (nine, h .same (λ z. let no : 9 ≡ 0 = sym nine ∙ z in absurd (omega arith)))
+    (nine, h .same (λ z. let both : illFormed ≡ notRefused = sym nine ∙ z in absurd (omega arith)))
 
 -- Demand 2: a call is refused under the table's condition and no other. Its number is the table's.
 pub number-claim :
@@ -127,7 +127,7 @@ port-claim m n offset value byte w =
     )
 
 -- Of the board's table, by one computed test: no two windows overlap, each window of a port is one of a port that the board
--- has, and a machine has a place for each of them.
+-- has, and its machine at reset has each of those ports.
 pub table-claim :
     (m : Machine) →
     (let b = machineOf m .board in

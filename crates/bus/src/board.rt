@@ -1,5 +1,6 @@
 // A board: how many ports it has, and the windows that its devices sit in. The rules of the bus are the same for every
-// board; what differs is the table. A table with fewer windows has some of length 0 at its end, in which no address lies.
+// board; what differs is the table. (Should a board have fewer windows, some of length 0 fill its table: no address lies in
+// them.)
 ghost use mathlib.Core.Path.{_≡_};
 ghost use Prim.Native.Nat.{_+_, _-_};
 ghost use Rattle.bus.specs.Board as board;

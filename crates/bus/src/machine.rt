@@ -1,5 +1,5 @@
 // The machine, six serial ports and a timer unit, as a state by value, and the calls on it. Each public call answers what
-// `specs/Call.antt` defines, whatever the machine and the arguments.
+// `specs/Machine.antt` and `specs/Call.antt` define, whatever the machine and the arguments.
 ghost use mathlib.Core.Path.{_≡_};
 ghost use Rattle.bus.specs.Machine as bus;
 ghost use Rattle.bus.specs.Call as call;
@@ -108,7 +108,7 @@ impl Answer {
 }
 
 impl Machine {
-    // The ports that a machine has a place for, 0 to 5; its board may have fewer.
+    // Ports 0 to 5.
     pub const PORTS: usize = 6;
 
     pub const BOARD: Board = Board::GR712RC;
@@ -220,7 +220,7 @@ impl Machine {
         }
     }
 
-    // A script record that is no call, because it is malformed or cut short.
+    // A script record that is malformed or cut short: a call that is always refused.
     pub fn malformed(self) -> Answer
         ensures { λ r. ⌜ Conforms self call.malformed r ⌝ }
     {
@@ -304,7 +304,7 @@ impl Machine {
         }
     }
 
-    // Port n. One that the machine does not have is refused before, so never asked for, here and below.
+    // Port n. A port that the machine does not have is refused before, so never asked for, here and below.
     fn port(self, n: u8) -> Apbuart
         ensures { λ r. ⌜ uart.portOf r ≡ bus.portAt n (machineOf self) ⌝ }
     {

@@ -1,6 +1,7 @@
 // A million calls on the compiled machine, each on the machine that the one before returned, for `tools/bench` to time. The
-// first byte of standard input says which calls. The program writes the sum of the values that they read and of the cycles
-// that they passed, so that none can be left out.
+// first byte of standard input says which calls. The program writes the sum of their numbers, of the values that they read
+// and of the cycles that they passed, and then what it reads in a port and in the timer unit after them, so that none can be
+// left out.
 use bus::machine::Answer;
 use bus::machine::Machine;
 use libc::STDIN_FILENO;
@@ -11,11 +12,10 @@ const CALLS: u64 = 1_000_000;
 fn main() {
     let mut input = io::buffer();
     io::read_full(STDIN_FILENO, &mut input);
-    io::print_decimal(STDOUT_FILENO, calls(input[0]));
-    io::write_all(STDOUT_FILENO, b"\n");
+    calls(input[0]);
 }
 
-fn calls(which: u8) -> u64 {
+fn calls(which: u8) {
     let mut machine = Machine::reset_state();
     let mut sum = 0;
     let mut left = CALLS;
@@ -23,13 +23,25 @@ fn calls(which: u8) -> u64 {
         left -= 1;
         let answer = call(machine, which, left);
         machine = answer.machine;
+        sum = std::num::wrapping_add_u64(sum, answer.refusal as u64);
         sum = std::num::wrapping_add_u64(sum, answer.value as u64);
         sum = std::num::wrapping_add_u64(sum, answer.cycles);
     }
-    sum
+    say(sum, machine);
 }
 
-// A register of port 1, 2, 3, 4 or 5.
+fn say(sum: u64, machine: Machine) {
+    number(sum);
+    number(machine.read(scaler(0), 4).value as u64);
+    number(machine.read(0x8000_0300, 4).value as u64);
+}
+
+fn number(n: u64) {
+    io::print_decimal(STDOUT_FILENO, n);
+    io::write_all(STDOUT_FILENO, b"\n");
+}
+
+// CONTROL and SCALER of port 1, 2, 3, 4 or 5.
 fn control(turn: u64) -> u32 {
     0x8010_0108 + (turn % 5) as u32 * 0x100
 }
@@ -40,9 +52,9 @@ fn scaler(turn: u64) -> u32 {
 
 fn call(machine: Machine, which: u8, turn: u64) -> Answer {
     match which {
-        // A read of a port's CONTROL, of a control register of the timer unit, and of no window.
+        // A read of a port's CONTROL, of a timer's control register, and of no window.
         b'f' => machine.read(control(turn), 4),
-        b'g' => machine.read(0x8000_0308 + (turn % 4) as u32 * 0x10, 4),
+        b'g' => machine.read(0x8000_0318 + (turn % 4) as u32 * 0x10, 4),
         b'h' => machine.read(0x8000_0400 + (turn % 4) as u32 * 0x10, 4),
         // A write to a port's SCALER.
         b'i' => machine.write(scaler(turn), 4, (turn % 256) as u32),

@@ -1,8 +1,9 @@
 // Plays calls on the compiled machine and writes each with its whole answer. Standard input, of at most 4096 bytes, has one
 // call a line, its numbers in hexadecimal: `r SIZE ADDRESS` reads, `w SIZE ADDRESS VALUE` writes, `o PORT BYTE` offers a
 // byte, `a CYCLES` advances, `s LIMIT` skips, `x` resets, `m` stands for a malformed script record, `l` asks for the line
-// levels alone. `i PORT` takes bit 31 from that port's CONTROL, which no call can do: the machine is then ill formed. A line
-// that begins with # says something and begins with a machine at reset; any other line is answered with a question mark.
+// levels alone. `c PORT WORD` puts the word into that port's CONTROL past the bus, as no call can: without bit 31 the machine
+// is then ill formed. A line that begins with # begins a part, with a machine at reset. An empty line is passed over; any
+// other is answered with a question mark.
 ghost use Prim.Native.Nat.{_≤_};
 use bus::machine::Answer;
 use bus::machine::Machine;
@@ -103,7 +104,7 @@ fn call(machine: Machine, line: Line) -> Machine {
         b'x' => reset(machine),
         b'm' => malformed(machine),
         b'l' => levels(machine),
-        b'i' => spoil(machine, line.third),
+        b'c' => put_control(machine, byte(line.second), word(line.third)),
         b'#' => heading(),
         0 => machine,
         _ => unknown(machine),
@@ -177,14 +178,16 @@ fn levels(machine: Machine) -> Machine {
     machine
 }
 
-fn spoil(mut machine: Machine, n: u64) -> Machine {
-    if n < 6 {
-        let i = n as usize;
-        machine.ports[i].control = 0;
+fn put_control(mut machine: Machine, port: u8, value: u32) -> Machine {
+    let i = port as usize;
+    if i < Machine::PORTS {
+        machine.ports[i].control = value;
     }
     say(b"  CONTROL of port ");
-    decimal(n);
-    say(b" without bit 31\n");
+    decimal(port as u64);
+    say(b" is ");
+    hex(value, 8);
+    say(b"\n");
     machine
 }
 

@@ -15,6 +15,11 @@ chosen P false x y p q = q
 pub same : {A : Type 0} (b : Bool) (x : A) → cond b x x ≡ x
 same b x = chosen (λ c y. y ≡ x) b x x refl refl
 
+-- What follows from either result of a test.
+pub tested : {P : Type 0} (b : Bool) → (b ≡ true → P) → (b ≡ false → P) → P
+tested true p q = p refl
+tested false p q = q refl
+
 pub if-true : {A : Type 0} (b : Bool) (x y z : A) → b ≡ true → x ≡ y → x ≡ cond b y z
 if-true b x y z t e = rw t e
 

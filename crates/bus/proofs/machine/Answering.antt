@@ -2,6 +2,7 @@
 use Prim.Native.Nat.{ℕ, _-_, _≤_, _<_}
 use mathlib.Core.Path.{_≡_, refl, sym, ap, _∙_}
 use mathlib.Core.Bool.{Bool, true, false}
+use mathlib.Core.List.{List}
 use native.Mathlib.Omega.{arith}
 use borrow.Author.Tests.{le-leb, lt-leb, not-true, not-false}
 use Rattle.devices.specs.Refusal.{notRefused, illFormed}
@@ -14,7 +15,7 @@ use Rattle.bus.specs.Board.{gr712rc}
 use Rattle.bus.specs.Machine as bus
 use Rattle.bus.specs.Call.{Call, offer, malformed, Subject, access, byteFor, other, refusal, subject}
 use Rattle.bus.specs.Call.{readDevice, writeDevice, reach, done}
-use Rattle.bus.specs.Call.Laws.{done-number, answer-done, answer-refused, offer-number, ill-number}
+use Rattle.bus.specs.Call.Laws.{done-number, answer-done, answer-refused, offer-number, ill-number, other-number}
 use Rattle.bus.specs.View.{machineOf, answerOf, Conforms}
 use Rattle.bus.specs.declared.board.Window.{Window}
 use Rattle.bus.specs.declared.board.Device.{Device}
@@ -24,39 +25,23 @@ use Rattle.bus.specs.declared.board.Found.the-variants.{In, Nowhere}
 use Rattle.bus.specs.declared.machine.Machine.{Machine}
 use Rattle.bus.specs.declared.machine.Answer.{Answer}
 
--- An answer that was made, from the machine after it.
-module _ (lines : ℕ) (m after : bus.Machine) where
-  pub of-port-by :
-      (n : ℕ) (a : uart.Answer) → after ≡ bus.withPort n (a .port) m → lines ≡ bus.levels after →
-      _≡_ {A = bus.Answer}
-      (record {
-        refusal = notRefused;
-        emitted = a .emitted;
-        byte = a .byte;
-        levels = lines;
-        value = a .value;
-        cycles = 0;
-        pulses = bus.noPulses;
-        machine = after;
-      })
-      (bus.ofPort n a m)
-  of-port-by n a e f = rw (f, e) refl
-
-  pub of-span-by :
-      (e : Elapsed) → after ≡ bus.withUnit (e .unit) m → lines ≡ bus.levels after →
-      _≡_ {A = bus.Answer}
-      (record {
-        refusal = notRefused;
-        emitted = false;
-        byte = 0;
-        levels = lines;
-        value = 0;
-        cycles = e .cycles;
-        pulses = e .pulses;
-        machine = after;
-      })
-      (bus.ofSpan e m)
-  of-span-by e f g = rw (g, f) refl
+-- An answer that was made, with the levels of the machine after it.
+pub answered-by :
+    (refusal : ℕ) (emitted : Bool) (byte lines value cycles : ℕ) (pulses : List ℕ) (after x : bus.Machine) → after ≡ x →
+    lines ≡ bus.levels after →
+    _≡_ {A = bus.Answer}
+    (record {
+      refusal = refusal;
+      emitted = emitted;
+      byte = byte;
+      levels = lines;
+      value = value;
+      cycles = cycles;
+      pulses = pulses;
+      machine = after;
+    })
+    (bus.answered refusal emitted byte value cycles pulses x)
+answered-by refusal emitted byte lines value cycles pulses after x e f = rw (f, e) refl
 
 -- A call that is not refused, and one that is.
 module _ (m : Machine) (c : Call) (a : Answer) where
@@ -66,7 +51,7 @@ module _ (m : Machine) (c : Call) (a : Answer) where
   accepts z e =
       record {
         answer = e ∙ sym (answer-done c (machineOf m) z);
-        same = λ no-refusal. absurd (no-refusal (ap (λ (x : bus.Answer). x .refusal) e ∙ done-number c (machineOf m)));
+        same = λ refused. absurd (refused (ap (λ (x : bus.Answer). x .refusal) e ∙ done-number c (machineOf m)));
       }
 
   refuses :
@@ -96,8 +81,7 @@ module _ (m : Machine) (c : Call) (a : Answer) (b : Bool) (e : b ≡ bus.wellFor
       (λ z. absurd (omega arith)) f
 
   pub well-done : b ≡ true → subject c (machineOf m) ≡ other → answerOf a ≡ done c (machineOf m) → Conforms m c a
-  unfolding refusal
-  well-done t asked f = accepts m c a (rw (asked, ← e, t) refl) f
+  well-done t asked f = accepts m c a (rw asked (other-number (machineOf m) (sym e ∙ t))) f
 
 pub bad-record :
     (m : Machine) (a : Answer) (b : Bool) → b ≡ bus.wellFormed (machineOf m) → b ≡ true →
@@ -122,15 +106,13 @@ pub asked-at : (address size : ℕ) (x y : Found) → x ≡ y → access address
 asked-at address size x y e = rw e refl
 
 -- An offered byte.
-module _ (m : Machine) (n byte : ℕ) (a : Answer) (b : Bool) (e : b ≡ bus.wellFormed (machineOf m)) (t : b ≡ true) where
-  six : gr712rc .ports ≤ n → noPort ≡ refusal (byteFor n) (machineOf m)
-  unfolding refusal
-  six l = rw (← e, t, le-leb (gr712rc .ports) n l) refl
-
+module _ (m : Machine) (n byte : ℕ) (b : Bool) (e : b ≡ bus.wellFormed (machineOf m)) (t : b ≡ true) where
   pub offer-no-port :
-      gr712rc .ports ≤ n → (answerOf a ≡ bus.refused noPort (machineOf m)) × (a .machine ≡ m) →
+      (a : Answer) → gr712rc .ports ≤ n → (answerOf a ≡ bus.refused noPort (machineOf m)) × (a .machine ≡ m) →
       Conforms m (offer n byte) a
-  offer-no-port l f = refuses m (offer n byte) a noPort (six l) (λ z. absurd (omega arith)) f
+  unfolding refusal
+  offer-no-port a l f =
+      refuses m (offer n byte) a noPort (rw (← e, t, le-leb (gr712rc .ports) n l) refl) (λ z. absurd (omega arith)) f
 
   module _
       (p : uart.Port) (x : uart.Answer) (l : n < gr712rc .ports) (h : p ≡ bus.portAt n (machineOf m))
@@ -138,13 +120,15 @@ module _ (m : Machine) (n byte : ℕ) (a : Answer) (b : Bool) (e : b ≡ bus.wel
     own : x .refusal ≡ refusal (byteFor n) (machineOf m)
     own = rw (f, h) (sym (offer-number n byte (machineOf m) (rw (← e) t) (lt-leb (gr712rc .ports) n l)))
 
-    pub offer-refuses :
-        (x .refusal ≡ notRefused → ⊥) → (answerOf a ≡ bus.refused (x .refusal) (machineOf m)) × (a .machine ≡ m) →
+    pub offer-refused :
+        (a : Answer) → (x .refusal ≡ notRefused → ⊥) →
+        (answerOf a ≡ bus.refused (x .refusal) (machineOf m)) × (a .machine ≡ m) →
         Conforms m (offer n byte) a
-    offer-refuses differs g = refuses m (offer n byte) a (x .refusal) own differs g
+    offer-refused a differs g = judged-refused m (offer n byte) a (x .refusal) (byteFor n) own refl differs g
 
-    pub offers : x .refusal ≡ notRefused → answerOf a ≡ bus.ofPort n x (machineOf m) → Conforms m (offer n byte) a
-    offers z g = accepts m (offer n byte) a (sym own ∙ z) (rw (← h, ← f) g)
+    pub offer-done :
+        (a : Answer) → x .refusal ≡ notRefused → answerOf a ≡ bus.ofPort n x (machineOf m) → Conforms m (offer n byte) a
+    offer-done a z g = judged-done m (offer n byte) a (x .refusal) (byteFor n) own refl z (rw (← h, ← f) g)
 
 -- What an access reaches.
 module _ (reply : Device → ℕ → bus.Answer) (m : bus.Machine) (address : ℕ) (found : Found) (x : bus.Answer) where
@@ -182,4 +166,4 @@ pub ruleset reaching = (reaches-window, reaches-none, read-port, read-unit, writ
 pub ruleset answering =
     (not-true, not-false, ill-formed, well-done, bad-record, judged-done, judged-refused, asked-at, of-span, of-machine, of-access)
 
-pub ruleset offering = (not-true, not-false, ill-formed, offer-no-port, offer-refuses, offers)
+pub ruleset offering = (not-true, not-false, ill-formed, offer-no-port, offer-refused, offer-done)

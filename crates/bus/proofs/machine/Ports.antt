@@ -1,12 +1,12 @@
 -- The ports of a machine, as the code goes through them. Assumes nothing.
 use Prim.Native.Nat.{ℕ, zero, suc, _+_, _*_, _-_, _^_, _≤_, _<_}
-use mathlib.Core.Path.{_≡_, refl, sym, _∙_}
+use mathlib.Core.Path.{_≡_, refl, sym, ap, _∙_}
 use mathlib.Core.Bool.{Bool, true, false, cond}
 use mathlib.Core.List.{List, [], _∷_, map}
 use native.Mathlib.Omega.{arith}
 use native.Mathlib.Nat.{pow-suc, pow-le-pow-right, suc-sub-suc, sub-zero}
-use native.Mathlib.Numerals.{add-one}
 use lib.ListN.{length, getD, set, drop, drop-of-length-le, length-map, length-drop, List·getD-eq-default}
+use lib.Seq.{drop-cons, set-out}
 use mir.Syntax.{w8}
 use mir.Val.{boolByte, Fits}
 use Rattle.devices.specs.Cases.{chosen}
@@ -14,9 +14,12 @@ use Rattle.devices.specs.Apbuart as uart
 use Rattle.devices.specs.Apbuart.View.{portOf}
 use Rattle.devices.specs.declared.apbuart.Apbuart.{Apbuart}
 use Rattle.bus.specs.Machine.{allWell, levelsOf}
-use Rattle.bus.proofs.Lists.{from-place, set-beyond}
+use Rattle.bus.proofs.Loops.{at-place, at-end}
 
 -- Whether every port is well formed, from each place on.
+abbrev wellPorts : List Apbuart → Bool
+wellPorts ps = allWell (map portOf ps)
+
 module _
     (ps : List Apbuart) (n i : ℕ) (whole : length ps ≡ n)
     (so-far : allWell (map portOf (drop i ps)) ≡ allWell (map portOf ps)) where
@@ -24,17 +27,17 @@ module _
       (z : Apbuart) (b : Bool) → i < n → b ≡ uart.wellFormed (portOf (getD ps i z)) → b ≡ true →
       allWell (map portOf (drop (i + 1) ps)) ≡ allWell (map portOf ps)
   unfolding allWell
-  well-later z b l e t = sym (sym so-far ∙ rw (from-place ps i z (omega arith), ← e, t, add-one) refl)
+  well-later z b l e t = rw (← at-place wellPorts ps n i whole so-far z l, ← e, t) refl
 
   pub ill-here :
       (z : Apbuart) (b : Bool) → i < n → b ≡ uart.wellFormed (portOf (getD ps i z)) → b ≡ false →
       false ≡ allWell (map portOf ps)
   unfolding allWell
-  ill-here z b l e t = sym (sym so-far ∙ rw (from-place ps i z (omega arith), ← e, t) refl)
+  ill-here z b l e t = rw (← at-place wellPorts ps n i whole so-far z l, ← e, t) refl
 
   pub well-all : n ≤ i → true ≡ allWell (map portOf ps)
   unfolding allWell
-  well-all l = sym (sym so-far ∙ rw (drop-of-length-le ps {i = i} (omega arith)) refl)
+  well-all l = at-end wellPorts ps n i whole so-far l
 
 -- The line levels, from the last port down.
 byte-level : (b : Bool) → boolByte b ≡ cond b 1 0
@@ -78,7 +81,7 @@ pub levels-more :
 unfolding levelsOf
 levels-more ps n zero x z whole l k e = absurd (omega arith)
 levels-more ps n (suc j) x z whole l k e =
-    rw (suc-sub-suc j 0, sub-zero j, from-place ps j z (omega arith), e, byte-level)
+    rw (suc-sub-suc j 0, sub-zero j, drop-cons ps j z (omega arith), e, byte-level)
     (omega arith)
 
 pub levels-all :
@@ -87,6 +90,11 @@ levels-all ps zero x l e = e
 levels-all ps (suc j) x l e = absurd (omega arith)
 
 -- One port.
+pub ports-set : (ps : List Apbuart) (i : ℕ) (p : Apbuart) → map portOf (set ps i p) ≡ set (map portOf ps) i (portOf p)
+ports-set [] i p = refl
+ports-set (q ∷ ps) zero p = refl
+ports-set (q ∷ ps) (suc i) p = ap {B = List uart.Port} (λ rest. portOf q ∷ rest) (ports-set ps i p)
+
 there :
     (ps : List Apbuart) (i : ℕ) (z : Apbuart) → i < length ps → portOf (getD ps i z) ≡ getD (map portOf ps) i uart.resetState
 there [] i z l = absurd (omega arith)
@@ -101,4 +109,4 @@ module _ (ps : List Apbuart) (n i : ℕ) (whole : length ps ≡ n) where
   port-none p l e = e ∙ sym (List·getD-eq-default (map portOf ps) uart.resetState {n = i} (rw length-map (omega arith)))
 
   pub port-not-set : (p : uart.Port) → n ≤ i → map portOf ps ≡ set (map portOf ps) i p
-  port-not-set p l = sym (set-beyond (map portOf ps) i p (rw length-map (omega arith)))
+  port-not-set p l = sym (set-out (map portOf ps) i p (rw length-map (omega arith)))

@@ -12,15 +12,15 @@ use Rattle.bus.specs.declared.board.Window.{Window}
 use Rattle.bus.specs.declared.board.Found.{Found}
 use Rattle.bus.specs.declared.board.Found.the-variants.{In, Nowhere}
 
--- a test of what a call did not say
+-- a negated test of what a call answered
 pub denied : (r b x : Bool) → r ≡ b → not r ≡ x → not b ≡ x
 denied r b x e t = rw (← e) t
 
 pub not-equal : (m n : ℕ) → (m ≡ n → ⊥) → not (eqb m n) ≡ true
 not-equal m n other = rw (ne-eqb m n other) refl
 
-pub not-other : (m n : ℕ) → m ≡ n → not (eqb m n) ≡ false
-not-other m n e = rw (eq-eqb m n e) refl
+pub not-differing : (m n : ℕ) → m ≡ n → not (eqb m n) ≡ false
+not-differing m n e = rw (eq-eqb m n e) refl
 
 -- the window of an address
 pub found-none : (f : Found) → f ≡ Nowhere → nowhere f ≡ true
@@ -49,9 +49,9 @@ size-pos r (suc n) e sized = omega arith
 
 pub narrow : (r : Bool) (n : ℕ) → r ≡ isSize n → not r ≡ false → (n ≡ 4 → ⊥) → (eqb n 1 || eqb n 2) ≡ true
 narrow true n e sized other =
-    let sized : true ≡ ((eqb n 1 || eqb n 2) || false) = rw (ne-eqb n 4 other) at e in
-    sym (sized ∙ or-false (eqb n 1 || eqb n 2))
+    let narrow-sized : true ≡ ((eqb n 1 || eqb n 2) || false) = rw (ne-eqb n 4 other) at e in
+    sym (narrow-sized ∙ or-false (eqb n 1 || eqb n 2))
 narrow false n e sized other = absurd (true≢false sized)
 
 pub ruleset refusing =
-    (if-true, if-false, denied, not-equal, not-other, found-none, found-one, runs-past, runs-not-past, word, narrow, tests)
+    (if-true, if-false, denied, not-equal, not-differing, found-none, found-one, runs-past, runs-not-past, word, narrow, tests)

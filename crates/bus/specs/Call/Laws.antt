@@ -9,7 +9,7 @@ use lib.Dec.{eqb, ltb, leb}
 use lib.ListN.{length, getD, set}
 use borrow.Author.Tests.{eq-eqb, ne-eqb, lt-ltb, le-ltb, lt-leb, le-leb}
 use Rattle.devices.specs.Word.{bit}
-use Rattle.devices.specs.Cases.{chosen}
+use Rattle.devices.specs.Cases.{chosen, tested}
 use Rattle.devices.specs.Refusal.{notRefused, receiverOff, queueFull, illFormed}
 use Rattle.devices.specs.Apbuart as uart
 use Rattle.devices.specs.Apbuart.{Port}
@@ -20,7 +20,7 @@ use Rattle.devices.specs.declared.gptimer.Elapsed.{Elapsed}
 use Rattle.bus.specs.Machine.{Machine, portAt, withUnit, allWell, wellFormed, resetState}
 use Rattle.bus.specs.Machine.{Answer, refused, accepted, ofPort, ofSpan}
 use Rattle.bus.specs.Call as call
-use Rattle.bus.specs.Call.{Call, Subject, byteFor, refusal, windowOf, subject}
+use Rattle.bus.specs.Call.{Call, Subject, byteFor, other, refusal, windowOf, subject}
 use Rattle.bus.specs.Call.{readDevice, writeDevice, reach, done, answer}
 use Rattle.bus.specs.declared.board.Device.{Device}
 use Rattle.bus.specs.declared.board.Device.the-variants as device
@@ -74,11 +74,15 @@ module _ (c : Call) (m : Machine) where
   answer-refused number e differs = rw (← e, ne-eqb number notRefused differs) refl
 
 -- A well-formed machine has well-formed ports; one that is not there is at reset.
+well-cons : (p : Port) (ps : List Port) → allWell (p ∷ ps) ≡ true → (uart.wellFormed p ≡ true) × (allWell ps ≡ true)
+unfolding allWell
+well-cons p ps w = and-eq-true-iff (uart.wellFormed p) (allWell ps) .0 w
+
 pub well-at : (ps : List Port) (n : ℕ) → allWell ps ≡ true → uart.wellFormed (getD ps n uart.resetState) ≡ true
-unfolding allWell uart.wellFormed
+unfolding uart.wellFormed
 well-at [] n w = refl
-well-at (p ∷ ps) zero w = and-eq-true-iff (uart.wellFormed p) (allWell ps) .0 w .0
-well-at (p ∷ ps) (suc n) w = well-at ps n (and-eq-true-iff (uart.wellFormed p) (allWell ps) .0 w .1)
+well-at (p ∷ ps) zero w = well-cons p ps w .0
+well-at (p ∷ ps) (suc n) w = well-at ps n (well-cons p ps w .1)
 
 -- 7 and 8 of the table are the port's own.
 room : (n depth : ℕ) → leb depth n ≡ not (ltb n depth)
@@ -106,11 +110,10 @@ offer-number n byte m w there =
 
 -- A call's number is the table's.
 pub answer-number : (c : Call) (m : Machine) → answer c m .refusal ≡ refusal (subject c m) m
-unfolding answer
 answer-number c m =
     elim (ℕ-discrete (refusal (subject c m) m) notRefused) [
-      | yes z ↦ rw (eq-eqb (refusal (subject c m) m) notRefused z, z) (done-number c m)
-      | no differs ↦ rw (ne-eqb (refusal (subject c m) m) notRefused differs) refl
+      | yes z ↦ rw (answer-done c m z, z) (done-number c m)
+      | no differs ↦ rw (answer-refused c m (refusal (subject c m) m) refl differs) refl
     ]
 
 -- An ill-formed machine gets 9, and comes back.
@@ -126,10 +129,8 @@ well-set :
     (ps : List Port) (n : ℕ) (p : Port) → allWell ps ≡ true → uart.wellFormed p ≡ true → allWell (set ps n p) ≡ true
 unfolding allWell
 well-set [] n p w v = refl
-well-set (q ∷ ps) zero p w v = rw v (and-eq-true-iff (uart.wellFormed q) (allWell ps) .0 w .1)
-well-set (q ∷ ps) (suc n) p w v =
-    let both = and-eq-true-iff (uart.wellFormed q) (allWell ps) .0 w in
-    rw (both .0) (well-set ps n p (both .1) v)
+well-set (q ∷ ps) zero p w v = rw v (well-cons q ps w .1)
+well-set (q ∷ ps) (suc n) p w v = rw (well-cons q ps w .0) (well-set ps n p (well-cons q ps w .1) v)
 
 done-well : (c : Call) (m : Machine) → wellFormed m ≡ true → wellFormed (done c m .machine) ≡ true
 unfolding allWell uart.wellFormed
@@ -139,20 +140,21 @@ done-well c m w =
 
 pub answer-keeps : (c : Call) (m : Machine) → wellFormed (answer c m .machine) ≡ wellFormed m
 unfolding answer
-answer-keeps c m = by-test (wellFormed m) refl
-  where
-    by-test : (b : Bool) → wellFormed m ≡ b → wellFormed (answer c m .machine) ≡ b
-    by-test true w =
-        chosen (λ b (a : Answer). wellFormed (a .machine) ≡ true) (eqb (refusal (subject c m) m) notRefused) _ _
-        (done-well c m w) w
-    by-test false ill = rw (ill-refused c m ill) ill
+answer-keeps c m =
+    tested (wellFormed m)
+    (λ w.
+    chosen (λ b (a : Answer). wellFormed (a .machine) ≡ wellFormed m) (eqb (refusal (subject c m) m) notRefused) _ _
+    (done-well c m w ∙ sym w) refl)
+    (λ ill. rw (ill-refused c m ill) refl)
 
 -- On a well-formed machine an advance and a skip are the timer unit's.
+pub other-number : (m : Machine) → wellFormed m ≡ true → refusal other m ≡ notRefused
+unfolding refusal
+other-number m w = rw w refl
+
 module _ (m : Machine) (w : wellFormed m ≡ true) (n : ℕ) where
   pub advance-well : answer (call.advance n) m ≡ ofSpan (gpt.advance n (m .unit)) m
-  unfolding refusal
-  advance-well = answer-done (call.advance n) m (rw w refl)
+  advance-well = answer-done (call.advance n) m (other-number m w)
 
   pub skip-well : answer (call.skip n) m ≡ ofSpan (gpt.skip n (m .unit)) m
-  unfolding refusal
-  skip-well = answer-done (call.skip n) m (rw w refl)
+  skip-well = answer-done (call.skip n) m (other-number m w)

@@ -1,9 +1,10 @@
 -- The slow run of a list of calls of which some advances are cut. Assumes nothing.
 use Prim.Native.Nat.{ℕ, _+_}
 use mathlib.Core.Path.{_≡_, refl, sym, ap, _∙_}
-use mathlib.Core.Bool.{Bool, true, false}
-use mathlib.Core.List.{List, [], _∷_, _++_, map}
-use lib.ListN.{length, take, drop, length-map}
+use mathlib.Core.List.{List, [], _∷_, map}
+use lib.ListN.{length, length-map}
+use lib.Seq.{take-at, drop-at}
+use Rattle.devices.specs.Cases.{tested}
 use Rattle.devices.specs.Gptimer as gpt
 use Rattle.devices.specs.Gptimer.Laws.{advance-cut}
 use Rattle.bus.specs.Machine.{Machine, Answer, withUnit, wellFormed}
@@ -18,26 +19,23 @@ use Rattle.bus.specs.Cuts.{joined, allJoined, rejoined}
 advance-joined :
     (a b : ℕ) (m : Machine) →
     answer (advance (a + b)) m ≡ joined (answer (advance a) m) (answer (advance b) (answer (advance a) m .machine))
-advance-joined a b m = by-test (wellFormed m) refl
-  where
-    by-test :
-        (t : Bool) → wellFormed m ≡ t →
-        answer (advance (a + b)) m ≡ joined (answer (advance a) m) (answer (advance b) (answer (advance a) m .machine))
-    by-test true w =
-        rw (
-          advance-well m w a,
-          advance-well (withUnit (gpt.advance a (m .unit) .unit) m) w b,
-          advance-well m w (a + b),
-          advance-cut a b (m .unit),
-        )
-        refl
-    by-test false ill =
-        rw (
-          ill-refused (advance a) m ill,
-          ill-refused (advance b) m ill,
-          ill-refused (advance (a + b)) m ill,
-        )
-        refl
+advance-joined a b m =
+    tested (wellFormed m)
+    (λ w.
+    rw (
+      advance-well m w a,
+      advance-well (withUnit (gpt.advance a (m .unit) .unit) m) w b,
+      advance-well m w (a + b),
+      advance-cut a b (m .unit),
+    )
+    refl)
+    (λ ill.
+    rw (
+      ill-refused (advance a) m ill,
+      ill-refused (advance b) m ill,
+      ill-refused (advance (a + b)) m ill,
+    )
+    refl)
 
 -- An advance in spans.
 spans-joined :
@@ -56,15 +54,6 @@ spans-after span [] m = refl
 spans-after span (next ∷ spans) m =
     spans-after next spans (answer (advance span) m .machine) ∙
     sym (ap (λ (a : Answer). a .machine) (advance-joined span (total next spans) m))
-
--- The part of a list that was put in front.
-take-front : {A : Type 0} (n : ℕ) (xs ys : List A) → length xs ≡ n → take n (xs ++ ys) ≡ xs
-take-front n [] ys e = rw (← e) refl
-take-front n (x ∷ xs) ys e = rw (← e) (ap {B = List _} (λ r. x ∷ r) (take-front (length xs) xs ys refl))
-
-drop-front : {A : Type 0} (n : ℕ) (xs ys : List A) → length xs ≡ n → drop n (xs ++ ys) ≡ ys
-drop-front n [] ys e = rw (← e) refl
-drop-front n (x ∷ xs) ys e = rw (← e) (drop-front (length xs) xs ys refl)
 
 -- The slow run of the cut list against that of the uncut one.
 pub slow-cut :
@@ -86,8 +75,8 @@ slow-cut (cut span spans ∷ es) m =
       answers-append (map advance spans) (cutCalls es) (first .machine),
       after-append (map advance spans) (cutCalls es) (first .machine),
       spans-after span spans m,
-      take-front (length spans) later (answers (cutCalls es) next) many,
-      drop-front (length spans) later (answers (cutCalls es) next) many,
+      take-at later (answers (cutCalls es) next) (length spans) many,
+      drop-at later (answers (cutCalls es) next) (length spans) many,
       ← spans-joined span spans m,
       ← rest .0,
     ) (refl, rest .1)

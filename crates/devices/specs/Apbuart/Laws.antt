@@ -9,7 +9,7 @@ use lib.ListN.{length, length-append}
 use lib.Dec.{leb, ltb}
 use borrow.Author.Tests.{leb-true, le-leb, ltb-true, eq-eqb}
 use Rattle.devices.specs.Word.{bit}
-use Rattle.devices.specs.Cases as law
+use Rattle.devices.specs.Cases.{chosen}
 use Rattle.devices.specs.Refusal.{notRefused, illFormed}
 use Rattle.devices.specs.Apbuart.{Port, Answer, FA, depth, wellFormed, refused, accepted, guarded}
 use Rattle.devices.specs.Apbuart.{withQueue, updateLevel, younger, writeControl, writeScaler}
@@ -30,12 +30,12 @@ well-by : (p : Port) → bit FA (p .control) ≡ true → length (p .queue) ≤ 
 unfolding wellFormed
 well-by p c q = rw c (le-leb (length (p .queue)) depth q)
 
--- an answer chosen by a test
-chosen :
+-- an answer either-well by a test
+either-well :
     (b : Bool) (x y : Answer) → (b ≡ true → wellFormed (x .port) ≡ true) → (b ≡ false → wellFormed (y .port) ≡ true) →
     wellFormed (cond b x y .port) ≡ true
-chosen true x y f g = f refl
-chosen false x y f g = g refl
+either-well true x y f g = f refl
+either-well false x y f g = g refl
 
 fewer : (q : List ℕ) → length (younger q) ≤ length q
 fewer [] = omega arith
@@ -70,32 +70,32 @@ keeps p x f = by-test (wellFormed p) refl
 
 pub read-keeps : (offset : ℕ) (p : Port) → wellFormed (read offset p .port) ≡ wellFormed p
 unfolding read
-read-keeps offset p = keeps p (readRegister offset p) (λ w. search (chosen, oldest-left) depth 12)
+read-keeps offset p = keeps p (readRegister offset p) (λ w. search (either-well, oldest-left) depth 12)
 
 pub write-keeps : (offset value : ℕ) (p : Port) → wellFormed (write offset value p .port) ≡ wellFormed p
 unfolding write
 write-keeps offset value p =
-    keeps p (writeRegister offset value p) (λ w. search (chosen, control-written, scaler-written) depth 12)
+    keeps p (writeRegister offset value p) (λ w. search (either-well, control-written, scaler-written) depth 12)
 
 pub offer-keeps : (byte : ℕ) (p : Port) → wellFormed (offer byte p .port) ≡ wellFormed p
 unfolding offer
-offer-keeps byte p = keeps p (receive byte p) (λ w. search (chosen, byte-joined) depth 12)
+offer-keeps byte p = keeps p (receive byte p) (λ w. search (either-well, byte-joined) depth 12)
 
 pub reset-keeps : (p : Port) → wellFormed (reset p .port) ≡ wellFormed p
 unfolding reset wellFormed
 reset-keeps p = keeps p (accepted 0 resetState) (λ w. refl)
 
 -- an access of a well-formed port is not refused
-number : (b : Bool) (x y : Answer) → x .refusal ≡ notRefused → y .refusal ≡ notRefused → cond b x y .refusal ≡ notRefused
-number b x y e f = law.chosen (λ c (a : Answer). a .refusal ≡ notRefused) b x y e f
+either-accepted : (b : Bool) (x y : Answer) → x .refusal ≡ notRefused → y .refusal ≡ notRefused → cond b x y .refusal ≡ notRefused
+either-accepted b x y e f = chosen (λ c (a : Answer). a .refusal ≡ notRefused) b x y e f
 
 module _ (p : Port) (w : wellFormed p ≡ true) where
   pub read-accepted : (offset : ℕ) → read offset p .refusal ≡ notRefused
   unfolding read
   read-accepted offset =
-      let register : readRegister offset p .refusal ≡ notRefused = search number depth 12 in rw w register
+      let register : readRegister offset p .refusal ≡ notRefused = search either-accepted depth 12 in rw w register
 
   pub write-accepted : (offset value : ℕ) → write offset value p .refusal ≡ notRefused
   unfolding write
   write-accepted offset value =
-      let register : writeRegister offset value p .refusal ≡ notRefused = search number depth 12 in rw w register
+      let register : writeRegister offset value p .refusal ≡ notRefused = search either-accepted depth 12 in rw w register

@@ -3,8 +3,7 @@ use borrow.Author.Needs.{needs}
 use mathlib.Core.Path.{refl}
 use Rattle.devices.specs.Lists.{length-of}
 use Rattle.devices.specs.Apbuart.View.{portOf}
-use Rattle.bus.proofs.Lists.{set-map}
-use Rattle.bus.proofs.machine.Ports.{port-not-set}
+use Rattle.bus.proofs.machine.Ports.{ports-set, port-not-set}
 use Rattle.bus.proofs.machine.Machine.with_port.Statement.{statement}
 use Rattle.bus.proofs.machine.Machine.with_port.Tie as tie
 
@@ -15,4 +14,4 @@ returns-2 c =
 
 pub with-port-spec : {M : Type 1} → statement M
 with-port-spec =
-    tie.close (tie.spec (λ c. search needs) (λ c. search needs) (λ c. rw set-map refl) returns-2)
+    tie.close (tie.spec (λ c. search needs) (λ c. search needs) (λ c. rw ports-set refl) returns-2)
