@@ -15,7 +15,7 @@ use Rattle.bus.specs.Board.{gr712rc}
 use Rattle.bus.specs.Machine as bus
 use Rattle.bus.specs.Call.{Call, offer, malformed, Subject, access, byteFor, other, refusal, subject}
 use Rattle.bus.specs.Call.{readDevice, writeDevice, reach, done}
-use Rattle.bus.specs.Call.Laws.{done-number, answer-done, answer-refused, offer-number, ill-number, other-number}
+use Rattle.bus.specs.Call.Laws.{done-number, answer-done, answer-refused, no-port-number, offer-number, ill-number, other-number}
 use Rattle.bus.specs.View.{machineOf, answerOf, Conforms}
 use Rattle.bus.specs.declared.board.Window.{Window}
 use Rattle.bus.specs.declared.board.Device.{Device}
@@ -110,9 +110,9 @@ module _ (m : Machine) (n byte : ℕ) (b : Bool) (e : b ≡ bus.wellFormed (mach
   pub offer-no-port :
       (a : Answer) → gr712rc .ports ≤ n → (answerOf a ≡ bus.refused noPort (machineOf m)) × (a .machine ≡ m) →
       Conforms m (offer n byte) a
-  unfolding refusal
   offer-no-port a l f =
-      refuses m (offer n byte) a noPort (rw (← e, t, le-leb (gr712rc .ports) n l) refl) (λ z. absurd (omega arith)) f
+      refuses m (offer n byte) a noPort
+      (no-port-number n (machineOf m) (sym e ∙ t) (le-leb (gr712rc .ports) n l)) (λ z. absurd (omega arith)) f
 
   module _
       (p : uart.Port) (x : uart.Answer) (l : n < gr712rc .ports) (h : p ≡ bus.portAt n (machineOf m))

@@ -17,6 +17,7 @@ use Rattle.devices.specs.Apbuart.Laws.{read-keeps, write-keeps, offer-keeps}
 use Rattle.devices.specs.Gptimer as gpt
 use Rattle.devices.specs.declared.gptimer.Gptimer.{Gptimer}
 use Rattle.devices.specs.declared.gptimer.Elapsed.{Elapsed}
+use Rattle.bus.specs.Refusal.{noPort}
 use Rattle.bus.specs.Machine.{Machine, portAt, withUnit, allWell, wellFormed, resetState}
 use Rattle.bus.specs.Machine.{Answer, refused, accepted, ofPort, ofSpan}
 use Rattle.bus.specs.Call as call
@@ -52,7 +53,7 @@ module _
   done-all : (c : Call) → P (done c m)
   done-all (call.read address size) = reaches (readDevice m) address (windowOf address m) reads
   done-all (call.write address size value) = reaches (writeDevice value m) address (windowOf address m) (writes value)
-  done-all (call.offer n byte) = ports n (uart.offer byte (portAt n m)) (offer-keeps byte (portAt n m))
+  done-all (call.offer n byte) = ports _ (uart.offer byte _) (offer-keeps byte _)
   done-all (call.advance cycles) = spans (gpt.advance cycles (m .unit))
   done-all (call.skip limit) = spans (gpt.skip limit (m .unit))
   done-all call.reset = resets
@@ -84,7 +85,7 @@ well-at [] n w = refl
 well-at (p ∷ ps) zero w = well-cons p ps w .0
 well-at (p ∷ ps) (suc n) w = well-at ps n (well-cons p ps w .1)
 
--- 7 and 8 of the table are the port's own.
+-- A port that the board does not have gets 6; 7 and 8 of the table are the port's own.
 room : (n depth : ℕ) → leb depth n ≡ not (ltb n depth)
 room n depth =
     elim (decLt n depth) [
@@ -99,6 +100,11 @@ receive-number :
 receive-number true true p a e = sym e
 receive-number true false p a e = refl
 receive-number false free p a e = refl
+
+pub no-port-number :
+    (n : ℕ) (m : Machine) → wellFormed m ≡ true → leb (m .board .ports) n ≡ true → noPort ≡ refusal (byteFor n) m
+unfolding refusal
+no-port-number n m w beyond = rw (w, beyond) refl
 
 pub offer-number :
     (n byte : ℕ) (m : Machine) → wellFormed m ≡ true → leb (m .board .ports) n ≡ false →
