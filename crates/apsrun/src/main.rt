@@ -1,0 +1,132 @@
+// The program: it runs the script that it reads from standard input on a machine at reset, and writes the log to standard
+// output. It only reads, calls the library `script`, and writes. Where a read or a write fails, it says so on standard error
+// and ends: the log then lacks what was not yet written, and no record is made up for what was not read.
+ghost use Prim.Native.Nat.{_≤_};
+ghost use lib.ListN.{length};
+use bus::machine::Machine;
+use bus::refusal::NOT_REFUSED;
+use libc::STDIN_FILENO;
+use libc::STDOUT_FILENO;
+use script::entry;
+use script::format;
+use script::format::Format;
+use script::run::run_piece;
+
+// The input is read in pieces, each of a whole number of records but the last.
+const PIECE: usize = 4096;
+
+// What the records of a piece log.
+const LOG_PIECE: usize = 12288;
+
+// What came of filling a buffer from standard input.
+struct Input {
+    // How many bytes came: fewer than the buffer holds where the input ended, or where a read failed.
+    count: usize,
+    failed: bool,
+}
+
+fn main() {
+    let mut header = [0; Format::HEADER];
+    let input = fill(&mut header);
+    let count = input.count;
+    if input.failed {
+        return;
+    }
+    let number = format::script_refusal(&header[..count]);
+    if number != NOT_REFUSED {
+        emit(&format::refusal_line(number));
+        return;
+    }
+    if emit(&format::log_header()) {
+        run();
+    }
+}
+
+// Runs what follows the header. A proved loop has to end, and nothing says that the input does: the loop counts its turns down,
+// from a number that no run uses up. So do the two below.
+fn run() {
+    let mut script = [0; PIECE];
+    let mut log = [0; LOG_PIECE];
+    let mut machine = Machine::reset_state();
+    let mut turns = u64::MAX;
+    while 0 < turns {
+        turns -= 1;
+        let input = fill(&mut script);
+        let count = input.count;
+        if input.failed {
+            return;
+        }
+        let ran = run_piece(machine, &script[..count], &mut log);
+        machine = ran.machine;
+        let end = entry::LENGTH * ran.done;
+        if !emit(&log[..end]) {
+            return;
+        }
+        if count < PIECE {
+            return;
+        }
+    }
+}
+
+// Reads until the buffer is full or the input ends. A read may bring fewer bytes than were asked for, and one that a signal
+// interrupts is made again.
+fn fill(buffer: &mut [u8]) -> Input
+    ensures { λ r. ⌜ r .count ≤ length (now (buffer .exit)) ⌝ }
+{
+    let mut count = 0;
+    let mut turns = u64::MAX;
+    while 0 < turns {
+        turns -= 1;
+        if buffer.len() <= count {
+            return Input {
+                count,
+                failed: false,
+            };
+        }
+        let got = libc::read(STDIN_FILENO, &mut buffer[count..]);
+        if got == 0 {
+            return Input {
+                count,
+                failed: false,
+            };
+        }
+        if got < 0 {
+            if os::errno() != libc::EINTR {
+                os::fail(b"standard input");
+                return Input {
+                    count,
+                    failed: true,
+                };
+            }
+        } else {
+            count += io::count(got, &buffer[count..]);
+        }
+    }
+    Input {
+        count,
+        failed: true,
+    }
+}
+
+// Writes all of the bytes, and answers whether it could. A write may take fewer than it was given, and one that a signal
+// interrupts is made again.
+fn emit(bytes: &[u8]) -> bool {
+    let mut count = 0;
+    let mut turns = u64::MAX;
+    while 0 < turns {
+        turns -= 1;
+        if bytes.len() <= count {
+            return true;
+        }
+        let put = libc::write(STDOUT_FILENO, &bytes[count..]);
+        if put < 0 {
+            if os::errno() != libc::EINTR {
+                os::fail(b"standard output");
+                return false;
+            }
+        } else {
+            count += io::count(put, &bytes[count..]);
+        }
+    }
+    false
+}

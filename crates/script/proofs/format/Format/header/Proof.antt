@@ -1,0 +1,12 @@
+-- The mark has three bytes. Assumes nothing.
+use borrow.Author.Needs.{needs}
+use Rattle.script.specs.Number.{encoded}
+use Rattle.script.proofs.format.Judging.{three}
+use Rattle.script.proofs.format.Format.header.Statement.{statement}
+use Rattle.script.proofs.format.Format.header.Tie as tie
+
+pub header-spec : {M : Type 1} → statement M
+unfolding encoded
+header-spec =
+    tie.close
+    (tie.spec (λ c. search needs) (λ c. search needs) (λ c. search needs) (λ c. search needs) (λ c. search needs) (λ c. search (three, needs)))

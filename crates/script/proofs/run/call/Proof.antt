@@ -1,0 +1,10 @@
+-- Each arm is a call of the machine. Assumes nothing.
+use borrow.Author.Needs.{needs}
+use Rattle.script.proofs.run.Playing.{by-variant}
+use Rattle.script.proofs.run.call.Statement.{statement}
+use Rattle.script.proofs.run.call.Tie as tie
+
+pub call-spec : {M : Type 1} → statement M
+call-spec =
+    tie.close
+    (tie.spec (λ c. search needs) (λ c κs. search needs) (λ c. search needs) (λ c κs. search needs) (λ c. search needs) (λ c κs. search needs) (λ c. search needs) (λ c κs. search needs) (λ c. search needs) (λ c κs. search needs) (λ c. search needs) (λ c κs. search needs) (λ c. search needs) (λ c κs. search needs) (λ c. search by-variant) (λ c. search by-variant) (λ c. search by-variant) (λ c. search by-variant) (λ c. search by-variant) (λ c. search by-variant) (λ c. search by-variant))

@@ -1,0 +1,47 @@
+-- What a script and a log begin with: paper 01, "Script and log". The code's struct says no more than the paper does, so
+-- the definitions are on that struct.
+pub mod Laws
+use Prim.Native.Nat.{ℕ, _+_, _/_, _%_}
+use mathlib.Core.Bool.{Bool, not, _&&_, _||_}
+use mathlib.Core.List.{List, [], _∷_, _++_}
+use lib.Dec.{eqb, ltb}
+use lib.ListN.{length}
+use Rattle.bus.specs.Call.{_when_, first}
+use Rattle.script.specs.Number.{byte, number, encoded}
+use Rattle.script.specs.Refusal.{badFile, badVersion}
+use Rattle.script.specs.declared.format.Format.{Format}
+
+-- "A script starts with `APS` and a 16-bit version 1"
+abbrev pub script : Format
+script = record { mark = 0x41 ∷ 0x50 ∷ 0x53 ∷ []; version = 1 }
+
+-- "a log with `APL` and version 1"
+abbrev pub log : Format
+log = record { mark = 0x41 ∷ 0x50 ∷ 0x4C ∷ []; version = 1 }
+
+abbrev pub header : Format → List ℕ
+header f = f .mark ++ encoded 2 (f .version)
+
+abbrev pub headerLength : ℕ
+headerLength = 5
+
+-- "the wrong mark": one of its three bytes differs
+abbrev pub marks : Format → List ℕ → Bool
+marks f file =
+    eqb (byte 0 file) (byte 0 (f .mark)) && eqb (byte 1 file) (byte 1 (f .mark)) && eqb (byte 2 file) (byte 2 (f .mark))
+
+-- "11 | a file is shorter than 5 bytes or has the wrong mark", "12 | the version isn't 1"; "11 before 12"
+abbrev pub refusal : Format → List ℕ → ℕ
+refusal f file =
+    first
+    (badFile when (ltb (length file) headerLength || not (marks f file)) ∷
+    badVersion when not (eqb (number 3 2 file) (f .version)) ∷
+    [])
+
+-- "For a bad header it writes only `refused 11` or `refused 12` and a newline": the numbers have two digits.
+abbrev pub digit : ℕ → ℕ
+digit n = 0x30 + n % 10
+
+abbrev pub refusalLine : ℕ → List ℕ
+refusalLine number =
+    0x72 ∷ 0x65 ∷ 0x66 ∷ 0x75 ∷ 0x73 ∷ 0x65 ∷ 0x64 ∷ 0x20 ∷ digit (number / 10) ∷ digit number ∷ 0x0A ∷ []

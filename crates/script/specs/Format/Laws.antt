@@ -1,0 +1,21 @@
+-- What follows from the definition of a file's refusal. Assumes nothing.
+use Prim.Native.Nat.{ℕ, suc}
+use mathlib.Core.Path.{_≡_, refl}
+use mathlib.Core.List.{List, [], _∷_}
+use native.Mathlib.Omega.{arith}
+use lib.ListN.{length, take}
+use borrow.Author.Tests.{le-ltb}
+use Rattle.script.specs.Number.{number}
+use Rattle.script.specs.Format.{headerLength, refusal}
+use Rattle.script.specs.declared.format.Format.{Format}
+
+-- A file is judged by its header.
+pub refusal-front : (f : Format) (file : List ℕ) → refusal f (take headerLength file) ≡ refusal f file
+unfolding number
+refusal-front f [] = refl
+refusal-front f (a ∷ []) = refl
+refusal-front f (a ∷ b ∷ []) = refl
+refusal-front f (a ∷ b ∷ c ∷ []) = refl
+refusal-front f (a ∷ b ∷ c ∷ d ∷ []) = refl
+refusal-front f (a ∷ b ∷ c ∷ d ∷ e ∷ rest) =
+    rw (le-ltb (suc (suc (suc (suc (suc (length rest)))))) headerLength (omega arith)) refl

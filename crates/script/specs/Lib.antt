@@ -1,0 +1,11 @@
+pub mod Theorems
+pub mod Refusal
+pub mod Number
+pub mod Lent
+pub mod Format
+pub mod Script
+pub mod Log
+pub mod Cut
+pub mod Run
+pub mod Program
+pub mod View

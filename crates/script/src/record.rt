@@ -1,0 +1,192 @@
+// A script bytes, of 16 bytes: the call that it stands for.
+ghost use mathlib.Core.Path.{_≡_};
+ghost use mathlib.Core.List.{[], _∷_};
+ghost use Prim.Native.Nat.{_≤_};
+ghost use lib.ListN.{length};
+ghost use Rattle.script.specs.Script as script;
+ghost use Rattle.script.specs.View.{callOf};
+use crate::number::number;
+
+// A record's length.
+pub const LENGTH: usize = 16;
+
+// The kinds, by a record's first byte.
+pub const READ: u8 = 1;
+
+pub const WRITE: u8 = 2;
+
+pub const OFFER: u8 = 3;
+
+pub const ADVANCE: u8 = 4;
+
+pub const SKIP: u8 = 5;
+
+pub const RESET: u8 = 6;
+
+// What a record asks of the machine.
+pub enum Call {
+    Read { address: u32, size: u8 },
+    Write { address: u32, size: u8, value: u32 },
+    Offer { port: u8, byte: u8 },
+    Advance(u64),
+    Skip(u64),
+    Reset,
+    // The record is malformed or cut short.
+    Malformed,
+}
+
+// The numbers in a record, by their places.
+struct Fields {
+    kind: u8,
+    byte_1: u8,
+    byte_2: u8,
+    byte_3: u8,
+    bytes_4_7: u32,
+    bytes_8_11: u32,
+    bytes_12_15: u32,
+    bytes_8_15: u64,
+}
+
+// The call of a record. Bytes behind a whole record are not looked at.
+pub fn decode(bytes: &[u8]) -> Call
+    ensures { λ r. ⌜ callOf r ≡ script.callIn (now (bytes .entry)) ⌝ }
+{
+    if bytes.len() < LENGTH {
+        return Call::Malformed;
+    }
+    Fields::of(bytes).call()
+}
+
+impl Fields {
+    fn of(bytes: &[u8]) -> Self
+        requires { ⌜ script.recordLength ≤ length (now bytes) ⌝ }
+        ensures { λ r. ⌜ r ≡ script.fields (now (bytes .entry)) ⌝ }
+    {
+        Fields {
+            kind: bytes[0],
+            byte_1: bytes[1],
+            byte_2: bytes[2],
+            byte_3: bytes[3],
+            bytes_4_7: number(bytes, 4, 4) as u32,
+            bytes_8_11: number(bytes, 8, 4) as u32,
+            bytes_12_15: number(bytes, 12, 4) as u32,
+            bytes_8_15: number(bytes, 8, 8),
+        }
+    }
+
+    fn call(self) -> Call
+        ensures { λ r. ⌜ callOf r ≡ script.callAmong (self .kind) (script.table self) ⌝ }
+    {
+        if self.kind == READ {
+            return self.read();
+        }
+        if self.kind == WRITE {
+            return self.write();
+        }
+        if self.kind == OFFER {
+            return self.offer();
+        }
+        if self.kind == ADVANCE {
+            return self.advance();
+        }
+        if self.kind == SKIP {
+            return self.skip();
+        }
+        if self.kind == RESET {
+            return self.reset();
+        }
+        Call::Malformed
+    }
+
+    fn read(self) -> Call
+        ensures { λ r. ⌜ callOf r ≡ script.callOn (script.readLine self) ⌝ }
+    {
+        if is_blank(0, self.byte_2, self.byte_3, 0, self.bytes_8_15) {
+            return Call::Read {
+                address: self.bytes_4_7,
+                size: self.byte_1,
+            };
+        }
+        Call::Malformed
+    }
+
+    fn write(self) -> Call
+        ensures { λ r. ⌜ callOf r ≡ script.callOn (script.writeLine self) ⌝ }
+    {
+        if is_blank(0, self.byte_2, self.byte_3, self.bytes_8_11, 0) {
+            return Call::Write {
+                address: self.bytes_4_7,
+                size: self.byte_1,
+                value: self.bytes_12_15,
+            };
+        }
+        Call::Malformed
+    }
+
+    fn offer(self) -> Call
+        ensures { λ r. ⌜ callOf r ≡ script.callOn (script.offerLine self) ⌝ }
+    {
+        if is_blank(0, 0, self.byte_3, self.bytes_4_7, self.bytes_8_15) {
+            return Call::Offer {
+                port: self.byte_1,
+                byte: self.byte_2,
+            };
+        }
+        Call::Malformed
+    }
+
+    fn advance(self) -> Call
+        ensures { λ r. ⌜ callOf r ≡ script.callOn (script.advanceLine self) ⌝ }
+    {
+        if is_blank(self.byte_1, self.byte_2, self.byte_3, self.bytes_4_7, 0) {
+            return Call::Advance(self.bytes_8_15);
+        }
+        Call::Malformed
+    }
+
+    fn skip(self) -> Call
+        ensures { λ r. ⌜ callOf r ≡ script.callOn (script.skipLine self) ⌝ }
+    {
+        if is_blank(self.byte_1, self.byte_2, self.byte_3, self.bytes_4_7, 0) {
+            return Call::Skip(self.bytes_8_15);
+        }
+        Call::Malformed
+    }
+
+    fn reset(self) -> Call
+        ensures { λ r. ⌜ callOf r ≡ script.callOn (script.resetLine self) ⌝ }
+    {
+        if is_blank(
+            self.byte_1,
+            self.byte_2,
+            self.byte_3,
+            self.bytes_4_7,
+            self.bytes_8_15,
+        ) {
+            return Call::Reset;
+        }
+        Call::Malformed
+    }
+}
+
+// Whether what a line of the table leaves blank is 0: bytes, a word and a long one. A caller passes 0 for what is not blank.
+fn is_blank(first: u8, second: u8, third: u8, word: u32, long: u64) -> bool
+    ensures { λ r. ⌜ r ≡ script.allZero (first ∷ second ∷ third ∷ word ∷ long ∷ []) ⌝ }
+{
+    if first != 0 {
+        return false;
+    }
+    if second != 0 {
+        return false;
+    }
+    if third != 0 {
+        return false;
+    }
+    if word != 0 {
+        return false;
+    }
+    if long != 0 {
+        return false;
+    }
+    true
+}

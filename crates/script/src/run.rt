@@ -1,0 +1,137 @@
+// A run of script records on a machine, and what the program does with a piece of its input.
+ghost use mathlib.Core.Path.{_≡_};
+ghost use mathlib.Core.Bool.{cond};
+ghost use Prim.Native.Nat.{_+_, _*_, _/_, _%_, _≤_, _<_, min};
+ghost use lib.Dec.{eqb};
+ghost use lib.ListN.{length, take, drop};
+ghost use Rattle.devices.specs.Refusal.{illFormed};
+ghost use Rattle.bus.specs.View as bus;
+ghost use Rattle.script.specs.Script as records;
+ghost use Rattle.script.specs.Log as entries;
+ghost use Rattle.script.specs.Run as runs;
+ghost use Rattle.script.specs.View.{callOf, Conforms};
+use crate::entry;
+use crate::record;
+use crate::record::Call;
+use crate::record::decode;
+use bus::machine::Answer;
+use bus::machine::Machine;
+use bus::refusal;
+
+// What a run answers.
+pub struct Ran {
+    // The refusal number of the whole run; refusal::NOT_REFUSED where it was not refused.
+    pub refusal: u8,
+    // How many records it did: as many stand in the log.
+    pub done: usize,
+    // The machine after them.
+    pub machine: Machine,
+}
+
+impl Ran {
+    // The refusal of a whole run, which does nothing: the machine comes back as it is.
+    fn refused(machine: Machine) -> Self
+        ensures { λ r. ⌜ (r .refusal ≡ illFormed) × (r .done ≡ 0) × (r .machine ≡ machine) ⌝ }
+    {
+        Ran {
+            refusal: refusal::ILL_FORMED,
+            done: 0,
+            machine,
+        }
+    }
+}
+
+// Runs the whole records of the script, as many as the limit and the log leave room for, and logs each.
+pub fn run(machine: Machine, script: &[u8], log: &mut [u8], limit: usize) -> Ran
+    ensures { λ r. ⌜ Conforms machine (runs.run limit (now (script .entry)) (now (log .entry))) r (now (log .exit)) ⌝ }
+{
+    if !machine.well_formed() {
+        return Ran::refused(machine);
+    }
+    let whole = script.len() / record::LENGTH;
+    let fitting = log.len() / entry::LENGTH;
+    play(machine, script, log, least(limit, least(whole, fitting)))
+}
+
+// What the program does with a piece of its input: as `run` without a limit, but a tail of fewer bytes than a record has is
+// one record more, which is cut short.
+pub fn run_piece(machine: Machine, piece: &[u8], log: &mut [u8]) -> Ran
+    ensures { λ r. ⌜ Conforms machine (runs.piece (now (piece .entry)) (now (log .entry))) r (now (log .exit)) ⌝ }
+{
+    if !machine.well_formed() {
+        return Ran::refused(machine);
+    }
+    let given = with_tail(piece.len());
+    let fitting = log.len() / entry::LENGTH;
+    play(machine, piece, log, least(given, fitting))
+}
+
+// How many records are in so many bytes, a tail included.
+fn with_tail(length: usize) -> usize
+    ensures { λ r. ⌜ r ≡ length / records.recordLength + cond (eqb (length % records.recordLength) 0) 0 1 ⌝ }
+{
+    let whole = length / record::LENGTH;
+    if length % record::LENGTH == 0 {
+        whole
+    } else {
+        whole + 1
+    }
+}
+
+// Runs and logs the first `count` records; the last may be cut short.
+fn play(machine: Machine, script: &[u8], log: &mut [u8], count: usize) -> Ran
+    requires { ⌜ records.recordLength * count < length (now script) + records.recordLength ⌝ }
+    requires { ⌜ entries.recordLength * count ≤ length (now log) ⌝ }
+    ensures { λ r. ⌜ Conforms machine (runs.ran count (now (script .entry)) (now (log .entry))) r (now (log .exit)) ⌝ }
+{
+    let mut machine = machine;
+    let mut i = 0;
+    while i < count {
+        let answer = call(machine, decode(record_at(script, i)));
+        entry::put(log, entry::LENGTH * i, answer);
+        machine = answer.machine;
+        i += 1;
+    }
+    Ran {
+        refusal: refusal::NOT_REFUSED,
+        done: count,
+        machine,
+    }
+}
+
+// The record at a place; the last may be cut short.
+fn record_at(script: &[u8], i: usize) -> &[u8]
+    requires { ⌜ records.recordLength * i ≤ length (now script) ⌝ }
+    ensures { λ r. ⌜ now r ≡ take records.recordLength (drop (records.recordLength * i) (now (script .entry))) ⌝ }
+{
+    let from = record::LENGTH * i;
+    if script.len() - from < record::LENGTH {
+        return &script[from..];
+    }
+    let to = from + record::LENGTH;
+    &script[from..to]
+}
+
+fn call(machine: Machine, call: Call) -> Answer
+    ensures { λ r. ⌜ bus.Conforms machine (callOf call) r ⌝ }
+{
+    match call {
+        Call::Read { address, size } => machine.read(address, size),
+        Call::Write {
+            address,
+            size,
+            value,
+        } => machine.write(address, size, value),
+        Call::Offer { port, byte } => machine.offer(port, byte),
+        Call::Advance(cycles) => machine.advance(cycles),
+        Call::Skip(limit) => machine.skip(limit),
+        Call::Reset => machine.reset(),
+        Call::Malformed => machine.malformed(),
+    }
+}
+
+fn least(a: usize, b: usize) -> usize
+    ensures { λ r. ⌜ r ≡ min a b ⌝ }
+{
+    if a < b { a } else { b }
+}
