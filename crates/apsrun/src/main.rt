@@ -5,18 +5,20 @@ ghost use Prim.Native.Nat.{_≤_};
 ghost use lib.ListN.{length};
 use bus::machine::Machine;
 use bus::refusal::NOT_REFUSED;
+use libc::STDERR_FILENO;
 use libc::STDIN_FILENO;
 use libc::STDOUT_FILENO;
 use script::entry;
 use script::format;
 use script::format::Format;
+use script::record;
 use script::run::run_piece;
 
 // The input is read in pieces, each of a whole number of records but the last.
 const PIECE: usize = 4096;
 
-// What the records of a piece log.
-const LOG_PIECE: usize = 12288;
+// Room for a log record for each record of a piece.
+const LOG_PIECE: usize = entry::LENGTH * (PIECE / record::LENGTH);
 
 // What came of filling a buffer from standard input.
 struct Input {
@@ -119,6 +121,13 @@ fn emit(bytes: &[u8]) -> bool {
             return true;
         }
         let put = libc::write(STDOUT_FILENO, &bytes[count..]);
+        if put == 0 {
+            io::write_all(
+                STDERR_FILENO,
+                b"standard output: nothing could be written\n",
+            );
+            return false;
+        }
         if put < 0 {
             if os::errno() != libc::EINTR {
                 os::fail(b"standard output");

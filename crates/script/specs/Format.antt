@@ -2,39 +2,34 @@
 -- the definitions are on that struct.
 pub mod Laws
 use Prim.Native.Nat.{ℕ, _+_, _/_, _%_}
-use mathlib.Core.Bool.{Bool, not, _&&_, _||_}
+use mathlib.Core.Bool.{not, _||_}
 use mathlib.Core.List.{List, [], _∷_, _++_}
 use lib.Dec.{eqb, ltb}
 use lib.ListN.{length}
 use Rattle.bus.specs.Call.{_when_, first}
-use Rattle.script.specs.Number.{byte, number, encoded}
+use Rattle.script.specs.Number.{number, encoded}
 use Rattle.script.specs.Refusal.{badFile, badVersion}
 use Rattle.script.specs.declared.format.Format.{Format}
 
--- "A script starts with `APS` and a 16-bit version 1"
+-- "A script starts with `APS` and a 16-bit version 1"; the mark's bytes are 41 50 53, here as a number
 abbrev pub script : Format
-script = record { mark = 0x41 ∷ 0x50 ∷ 0x53 ∷ []; version = 1 }
+script = record { mark = 0x415053; version = 1 }
 
--- "a log with `APL` and version 1"
+-- "a log with `APL` and version 1": 41 50 4C
 abbrev pub log : Format
-log = record { mark = 0x41 ∷ 0x50 ∷ 0x4C ∷ []; version = 1 }
+log = record { mark = 0x41504C; version = 1 }
 
 abbrev pub header : Format → List ℕ
-header f = f .mark ++ encoded 2 (f .version)
+header f = encoded 3 (f .mark) ++ encoded 2 (f .version)
 
 abbrev pub headerLength : ℕ
 headerLength = 5
-
--- "the wrong mark": one of its three bytes differs
-abbrev pub marks : Format → List ℕ → Bool
-marks f file =
-    eqb (byte 0 file) (byte 0 (f .mark)) && eqb (byte 1 file) (byte 1 (f .mark)) && eqb (byte 2 file) (byte 2 (f .mark))
 
 -- "11 | a file is shorter than 5 bytes or has the wrong mark", "12 | the version isn't 1"; "11 before 12"
 abbrev pub refusal : Format → List ℕ → ℕ
 refusal f file =
     first
-    (badFile when (ltb (length file) headerLength || not (marks f file)) ∷
+    (badFile when (ltb (length file) headerLength || not (eqb (number 0 3 file) (f .mark))) ∷
     badVersion when not (eqb (number 3 2 file) (f .version)) ∷
     [])
 

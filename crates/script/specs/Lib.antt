@@ -9,3 +9,4 @@ pub mod Cut
 pub mod Run
 pub mod Program
 pub mod View
+pub mod Parts

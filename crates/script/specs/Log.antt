@@ -1,7 +1,7 @@
 -- Log records: paper 01, "Script and log".
 pub mod Laws
-use Prim.Native.Nat.{ℕ}
-use mathlib.Core.Bool.{Bool, cond}
+use Prim.Native.Nat.{ℕ, _-_}
+use mathlib.Core.Bool.{cond}
 use mathlib.Core.List.{List, [], _∷_, _++_}
 use lib.ListN.{getD}
 use Rattle.bus.specs.Machine.{Answer}
@@ -11,20 +11,17 @@ use Rattle.script.specs.Number.{encoded}
 abbrev pub recordLength : ℕ
 recordLength = 48
 
+-- the pulse count of timer n
+abbrev pub pulses : ℕ → Answer → ℕ
+pulses n a = getD (a .pulses) (n - 1) 0
+
 -- "0 refusal number; 1 is 1 if a byte was emitted; 2 that byte, else 0; 3 the line levels after it, bit p for port p; 4-7
--- value read"
-abbrev pub access : (refusal : ℕ) (emitted : Bool) (byte levels value : ℕ) → List ℕ
-access refusal emitted byte levels value =
-    encoded 1 refusal ++ encoded 1 (cond emitted 1 0) ++ encoded 1 byte ++ encoded 1 levels ++ encoded 4 value
-
--- "8-15 cycles passed; 16-47 the four pulse counts, timer 1 first"
-abbrev pub span : (cycles : ℕ) (pulses : List ℕ) → List ℕ
-span cycles pulses =
-    encoded 8 cycles ++ encoded 8 (getD pulses 0 0) ++ encoded 8 (getD pulses 1 0) ++ encoded 8 (getD pulses 2 0) ++
-    encoded 8 (getD pulses 3 0)
-
+-- value read; 8-15 cycles passed; 16-47 the four pulse counts, timer 1 first."
 unfoldable pub entry : Answer → List ℕ
-entry a = access (a .refusal) (a .emitted) (a .byte) (a .levels) (a .value) ++ span (a .cycles) (a .pulses)
+entry a =
+    encoded 1 (a .refusal) ++ encoded 1 (cond (a .emitted) 1 0) ++ encoded 1 (a .byte) ++ encoded 1 (a .levels) ++
+    encoded 4 (a .value) ++ encoded 8 (a .cycles) ++
+    encoded 8 (pulses 1 a) ++ encoded 8 (pulses 2 a) ++ encoded 8 (pulses 3 a) ++ encoded 8 (pulses 4 a)
 
 -- the log records of answers, in order
 abbrev pub entries : List Answer → List ℕ

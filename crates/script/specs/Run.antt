@@ -39,6 +39,10 @@ ran n script log m =
 abbrev pub refused : (log : List ℕ) → Machine → Ran
 refused log m = record { refusal = illFormed; done = 0; answers = []; log = log; machine = m }
 
+-- "Every call on a machine is subject to 9".
+abbrev pub judged : (n : ℕ) (script log : List ℕ) → Machine → Ran
+judged n script log m = cond (wellFormed m) (ran n script log m) (refused log m)
+
 -- "whole records given", "whole log records that fit"
 abbrev pub whole : (script : List ℕ) → ℕ
 whole script = length script / scripts.recordLength
@@ -49,13 +53,12 @@ fitting log = length log / logs.recordLength
 -- "A run takes the machine, script records, a lent log and a limit in records. It does the smallest of: the limit, whole
 -- records given, whole log records that fit. A partial record at the end of what it is given is passed over".
 unfoldable pub run : (limit : ℕ) (script log : List ℕ) → Machine → Ran
-run limit script log m =
-    cond (wellFormed m) (ran (min limit (min (whole script) (fitting log))) script log m) (refused log m)
+run limit script log = judged (min limit (min (whole script) (fitting log))) script log
 
 -- "A tail of 1 to 15 bytes adds one log record with number 10": it is a record that is cut short.
 abbrev pub withTail : (script : List ℕ) → ℕ
 withTail script = whole script + cond (eqb (length script % scripts.recordLength) 0) 0 1
 
--- What the program does with a piece of its input: as a run does, with the tail.
+-- What the program does with a piece of its input: as a run whose limit is never reached, and a tail is one record more.
 unfoldable pub piece : (script log : List ℕ) → Machine → Ran
-piece script log m = cond (wellFormed m) (ran (min (withTail script) (fitting log)) script log m) (refused log m)
+piece script log = judged (min (withTail script) (fitting log)) script log

@@ -46,7 +46,7 @@ fields r =
       bytes_8_15 = number 8 8 r;
     }
 
--- A line of the table: a kind, the call that its records stand for, and the numbers that it has to be 0: "Byte 3, each
+-- A line of the table: a kind, the call that its records stand for, and the numbers in them that have to be 0: "Byte 3, each
 -- blank and a write's bytes 8-11 are 0."
 pub record Line : Type 0 where
   pub kind : ℕ
@@ -126,7 +126,7 @@ callAmong kind (l ∷ ls) = cond (eqb kind (l .kind)) (callOn l) (callAmong kind
 unfoldable pub callIn : List ℕ → Call
 callIn r = cond (ltb (length r) recordLength) malformed (callAmong (byte 0 r) (table (fields r)))
 
--- The calls of the first n records of a script.
+-- The calls of the first n records of a script; one that is not there, whole or in part, counts as cut short.
 abbrev pub calls : ℕ → List ℕ → List Call
 calls zero script = []
 calls (suc n) script = callIn (take recordLength script) ∷ calls n (drop recordLength script)

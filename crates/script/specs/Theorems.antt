@@ -2,24 +2,23 @@
 -- part, then those on single calls, which stand in the bus (Theorems.antt there). Each claim is about any answers, machines
 -- and logs that meet the contracts of the calls (`Conforms`, View.antt here and in the bus), so about what the code promises.
 -- Assumes nothing.
-use Prim.Native.Nat.{ℕ, zero, suc, _+_, _*_, _%_, _≤_, min}
+use Prim.Native.Nat.{ℕ, zero, suc, _+_, _*_, _≤_, _<_, min}
 use mathlib.Core.Path.{_≡_, refl, sym, ap, _∙_}
-use mathlib.Core.Bool.{true, cond}
-use mathlib.Core.List.{List, [], _∷_, _++_, map}
+use mathlib.Core.Bool.{true, false}
+use mathlib.Core.List.{List, [], _∷_, _++_}
 use native.Mathlib.Omega.{arith}
-use native.Mathlib.Nat.{min-eq-left, min-eq-right}
-use lib.Dec.{eqb}
-use lib.ListN.{length, take, drop}
+use native.Mathlib.Decide.{decLt}
+use lib.ListN.{length, take, drop, length-drop, take-append-drop}
+use lib.Seq.{length-take-le}
 use borrow.Author.Tests.{eq-eqb, ne-eqb}
-use Rattle.devices.specs.Refusal.{notRefused}
+use Rattle.devices.specs.Refusal.{notRefused, illFormed}
 use Rattle.devices.specs.Apbuart as uart
-use Rattle.bus.specs.Refusal.{badRecord}
 use Rattle.bus.specs.Board.{gr712rc}
 use Rattle.bus.specs.Machine as bus
 use Rattle.bus.specs.Machine.{wellFormed}
 use Rattle.bus.specs.Call.{Call}
 use Rattle.bus.specs.SlowRun.{answers, after}
-use Rattle.bus.specs.SlowRun.Laws.{answers-append, after-append, length-answers}
+use Rattle.bus.specs.SlowRun.Laws.{answers-append, after-append, length-answers, after-keeps}
 use Rattle.bus.specs.Cuts.{Entry, uncutCalls, cutCalls, rejoined}
 use Rattle.bus.specs.Cuts.Laws.{slow-cut}
 use Rattle.bus.specs.View as view
@@ -30,7 +29,6 @@ use Rattle.bus.specs.declared.machine.Answer.{Answer}
 use Rattle.script.specs.Format as format
 use Rattle.script.specs.Format.Laws as format-laws
 use Rattle.script.specs.Lent.{wrote}
-use Rattle.script.specs.Script as scripts
 use Rattle.script.specs.Script.{calls}
 use Rattle.script.specs.Script.Laws.{length-calls}
 use Rattle.script.specs.Log.{recordLength, entry, entries}
@@ -38,8 +36,8 @@ use Rattle.script.specs.Log.Laws.{first-entry}
 use Rattle.script.specs.Run.{whole, fitting, run, withTail, piece}
 use Rattle.script.specs.Run.Laws as laws
 use Rattle.script.specs.Run.Laws.{Did, Series}
-use Rattle.script.specs.Cut.{Cut, uncut, cut, pieceLength, logLength, Read, last, full}
-use Rattle.script.specs.Program.{written, output}
+use Rattle.script.specs.Cut.{Cut, uncut, cut, pieceLength, logLength, InPieces, last, full}
+use Rattle.script.specs.Program.{tailLog, output}
 use Rattle.script.specs.View.{Conforms}
 use Rattle.script.specs.declared.run.Ran.{Ran}
 pub use Rattle.bus.specs.Theorems.{skip-claim, well-claim, ill-claim, number-claim, refusal-claim, port-claim, table-claim, window-claim}
@@ -51,18 +49,41 @@ logOf r bytes = take (recordLength * r .done) bytes
 -- Demand 3, runs. "on such a machine a run logs the slow run's answers, in order, for the records it does, and leaves the
 -- machine that the slow run leaves after them", a malformed record being a refused call. It does the smallest of the three
 -- counts, and the log after them is not touched.
-pub record RunsSlowly (limit : ℕ) (script log : List ℕ) (m : Machine) (r : Ran) (bytes : List ℕ) : Type 0 where
+pub record AsSlowRun (limit : ℕ) (script log : List ℕ) (m : Machine) (r : Ran) (bytes : List ℕ) : Type 0 where
+  pub accepted : r .refusal ≡ notRefused
   pub done : r .done ≡ min limit (min (whole script) (fitting log))
   pub logs : bytes ≡ wrote log 0 (entries (answers (calls (r .done) script) (machineOf m)))
   pub leaves : machineOf (r .machine) ≡ after (calls (r .done) script) (machineOf m)
 
 pub run-claim :
     (limit : ℕ) (script log : List ℕ) {bytes : List ℕ} {m : Machine} {r : Ran} → wellFormed (machineOf m) ≡ true →
-    Conforms m (run limit script log) r bytes → RunsSlowly limit script log m r bytes
+    Conforms m (run limit script log) r bytes → AsSlowRun limit script log m r bytes
 unfolding run
 run-claim limit script log w c =
     let done = rw w at (c .done) in
-    record { done = done; logs = rw done (rw w at (c .log)); leaves = rw done (rw w at (c .machine)) }
+    record { accepted = rw w at (c .number); done = done; logs = rw done (rw w at (c .log)); leaves = rw done (rw w at (c .machine)) }
+
+-- Demand 1, runs. "Refusal 9 of the whole run does 0 records": on an ill-formed machine nothing is written, and the machine
+-- comes back alike in every field.
+pub run-ill-claim :
+    (limit : ℕ) (script log : List ℕ) {bytes : List ℕ} {m : Machine} {r : Ran} → wellFormed (machineOf m) ≡ false →
+    Conforms m (run limit script log) r bytes →
+    (r .refusal ≡ illFormed) × (r .done ≡ 0) × (bytes ≡ log) × (r .machine ≡ m)
+unfolding run
+run-ill-claim limit script log {r} ill c =
+    let nine : r .refusal ≡ illFormed = rw ill at (c .number) in
+    (nine, rw ill at (c .done), rw ill at (c .log), c .same (λ z. let both : illFormed ≡ notRefused = sym nine ∙ z in absurd (omega arith)))
+
+-- A run neither makes nor repairs an ill-formed machine.
+pub run-well-claim :
+    (limit : ℕ) (script log : List ℕ) {bytes : List ℕ} {m : Machine} {r : Ran} → Conforms m (run limit script log) r bytes →
+    wellFormed (machineOf (r .machine)) ≡ wellFormed (machineOf m)
+unfolding run
+run-well-claim limit script log {bytes} {m} {r} c =
+    let did =
+    laws.runs-did (min limit (min (whole script) (fitting log))) script log (machineOf m) (r .done) bytes
+    (machineOf (r .machine)) (c .done) (c .log) (c .machine) in
+    ap wellFormed (did .machine) ∙ after-keeps (calls (r .done) script) (machineOf m)
 
 -- Scripts run in order, each on the machine that the one before left, where limits and log room cover every record; with
 -- the logs joined and the last machine.
@@ -80,7 +101,7 @@ run-did :
 unfolding run
 run-did limit script log {bytes} {m} {r} c h k =
     let all : min limit (min (whole script) (fitting log)) ≡ whole script = omega arith in
-    laws.judged-did (whole script) script log (machineOf m) (r .done) bytes (machineOf (r .machine)) (rw all at (c .done))
+    laws.runs-did (whole script) script log (machineOf m) (r .done) bytes (machineOf (r .machine)) (rw all at (c .done))
     (rw all at (c .log)) (rw all at (c .machine))
 
 runs-series :
@@ -116,16 +137,32 @@ piece-did :
 unfolding piece
 piece-did input log {bytes} {m} {r} c h =
     let all : min (withTail input) (fitting log) ≡ withTail input = omega arith in
-    laws.judged-did (withTail input) input log (machineOf m) (r .done) bytes (machineOf (r .machine)) (rw all at (c .done))
+    laws.runs-did (withTail input) input log (machineOf m) (r .done) bytes (machineOf (r .machine)) (rw all at (c .done))
     (rw all at (c .log)) (rw all at (c .machine))
 
--- How the program cuts its input is a cut between records, and each piece's log fits its buffer.
-read-cut : {input : List ℕ} {inputs : List (List ℕ)} → Read input inputs → Cut input inputs
-read-cut (last h) = uncut
-read-cut (full {piece} {rest} e reads) = cut {script = piece} {rest = rest} (rw e refl) (read-cut reads)
+-- Every input is cut so, and how the program cuts its input is a cut between records.
+cut-up : (n : ℕ) (input : List ℕ) → length input < n → (inputs : List (List ℕ)) × InPieces input inputs
+cut-up zero input h = absurd (omega arith)
+cut-up (suc n) input h =
+    elim (decLt (length input) pieceLength) [
+      | yes l ↦ (input ∷ [], last l)
+      | no l ↦
+          let rest = cut-up n (drop pieceLength input) (rw length-drop (omega arith)) in (
+            take pieceLength input ∷ rest .0,
+            rw (take-append-drop pieceLength input) at
+                (full {piece = take pieceLength input} {rest = drop pieceLength input} (length-take-le pieceLength input (omega arith)) (rest .1)),
+          )
+    ]
+
+pub pieces-exist : (input : List ℕ) → (inputs : List (List ℕ)) × InPieces input inputs
+pieces-exist input = cut-up (suc (length input)) input (omega arith)
+
+pub read-claim : {input : List ℕ} {inputs : List (List ℕ)} → InPieces input inputs → Cut input inputs
+read-claim (last h) = uncut
+read-claim (full {piece} {rest} e reads) = cut {piece = piece} {rest = rest} (rw e refl) (read-claim reads)
 
 pieces-series :
-    {m end : Machine} {input joined : List ℕ} {inputs : List (List ℕ)} → Read input inputs → Pieces m inputs joined end →
+    {m end : Machine} {input joined : List ℕ} {inputs : List (List ℕ)} → InPieces input inputs → Pieces m inputs joined end →
     Series withTail (machineOf m) inputs joined (machineOf end)
 pieces-series (last h) (next input log c e none) =
     laws.next (piece-did input log c (laws.piece-fits input log (omega arith) e)) laws.none
@@ -149,13 +186,13 @@ refused-claim input {number} e differs =
 pub program-claim :
     (input : List ℕ) {number : ℕ} {m end : Machine} {joined : List ℕ} {inputs : List (List ℕ)} →
     number ≡ format.refusal format.script (take format.headerLength input) → number ≡ notRefused →
-    machineOf m ≡ bus.resetState gr712rc → Read (drop format.headerLength input) inputs → Pieces m inputs joined end →
+    machineOf m ≡ bus.resetState gr712rc → InPieces (drop format.headerLength input) inputs → Pieces m inputs joined end →
     format.header format.log ++ joined ≡ output input
 unfolding output
 program-claim input {number} {m} e accepted start reads pieces =
     let rest = drop format.headerLength input in
     let well : wellFormed (machineOf m) ≡ true = ap wellFormed start ∙ reset-well gr712rc in
-    let joins = rw well at (laws.series-joined withTail laws.tail-adds (read-cut reads) (pieces-series reads pieces)) in
+    let joins = rw well at (laws.series-joined withTail laws.tail-adds (read-claim reads) (pieces-series reads pieces)) in
     rw (← format-laws.refusal-front format.script input, ← e, eq-eqb number notRefused accepted)
     (ap (λ (l : List ℕ). format.header format.log ++ l)
     (joins .0 ∙ ap (λ (x : bus.Machine). entries (answers (calls (withTail rest) rest) x)) start))
@@ -164,17 +201,17 @@ program-claim input {number} {m} e accepted start reads pieces =
 -- number 10; and its last machine is that run's.
 pub one-run-claim :
     (limit : ℕ) (script log : List ℕ) {m n end : Machine} {bytes joined : List ℕ} {inputs : List (List ℕ)} {r : Ran} →
-    machineOf m ≡ machineOf n → wellFormed (machineOf m) ≡ true → Read script inputs → Pieces m inputs joined end →
+    machineOf m ≡ machineOf n → wellFormed (machineOf m) ≡ true → InPieces script inputs → Pieces m inputs joined end →
     Conforms n (run limit script log) r bytes → whole script ≤ limit → whole script ≤ fitting log →
-    (joined ≡ logOf r bytes ++ laws.tailLog script (machineOf (r .machine))) × (machineOf end ≡ machineOf (r .machine))
+    (joined ≡ logOf r bytes ++ tailLog script (machineOf (r .machine))) × (machineOf end ≡ machineOf (r .machine))
 one-run-claim limit script log {m} {bytes} {r} e well reads pieces c h k =
     let one = rw (← e) at (run-did limit script log c h k) in
     let done : r .done ≡ whole script = rw well at (one .done) in
     let wrote : logOf r bytes ≡ entries (answers (calls (whole script) script) (machineOf m)) = one .log ∙ rw done refl in
     let left : machineOf (r .machine) ≡ after (calls (whole script) script) (machineOf m) = one .machine ∙ rw done refl in
-    let joins = rw well at (laws.series-joined withTail laws.tail-adds (read-cut reads) (pieces-series reads pieces)) in
+    let joins = rw well at (laws.series-joined withTail laws.tail-adds (read-claim reads) (pieces-series reads pieces)) in
     let tail = laws.tail-answered script (machineOf m) well in (
-      joins .0 ∙ tail .0 ∙ rw wrote (ap (λ (x : bus.Machine). entries (answers (calls (whole script) script) (machineOf m)) ++ laws.tailLog script x) (sym left)),
+      joins .0 ∙ tail .0 ∙ rw wrote (ap (λ (x : bus.Machine). entries (answers (calls (whole script) script) (machineOf m)) ++ tailLog script x) (sym left)),
       joins .1 ∙ tail .1 ∙ sym left,
     )
 
@@ -256,12 +293,12 @@ list-claim (call h t) = let rest = list-claim t in rw (← h .answer) (answer re
 list-claim (script-run limit script log {m} {cs} {r} {bytes} h t) =
     let n = min limit (min (whole script) (fitting log)) in
     did-agree n (r .done) script cs
-    (laws.judged-did n script log (machineOf m) (r .done) bytes (machineOf (r .machine)) (h .done) (h .log) (h .machine))
+    (laws.runs-did n script log (machineOf m) (r .done) bytes (machineOf (r .machine)) (h .done) (h .log) (h .machine))
     (list-claim t)
 list-claim (input-piece input log {m} {cs} {r} {bytes} h t) =
     let n = min (withTail input) (fitting log) in
     did-agree n (r .done) input cs
-    (laws.judged-did n input log (machineOf m) (r .done) bytes (machineOf (r .machine)) (h .done) (h .log) (h .machine))
+    (laws.runs-did n input log (machineOf m) (r .done) bytes (machineOf (r .machine)) (h .done) (h .log) (h .machine))
     (list-claim t)
 
 -- Demand 3: time may be cut anywhere. Replace any advances of a list, script records among them, each by one or more spans that

@@ -1,15 +1,13 @@
 // What a script and a log begin with, and what is written in place of a log where a script is refused.
 ghost use mathlib.Core.Path.{_≡_};
-ghost use Prim.Native.Nat.{_≤_};
-ghost use lib.ListN.{length};
 ghost use Rattle.script.specs.Format as format;
 use crate::number::number;
 use crate::refusal;
 use bus::refusal::NOT_REFUSED;
 
-// A kind of file: its mark and its version.
+// A kind of file: its mark, three bytes as a number, and its version.
 pub struct Format {
-    pub mark: [u8; 3],
+    pub mark: u32,
     pub version: u16,
 }
 
@@ -17,13 +15,15 @@ impl Format {
     // The mark's three bytes and the version's two.
     pub const HEADER: usize = 5;
 
+    // `APS`
     pub const SCRIPT: Format = Format {
-        mark: [b'A', b'P', b'S'],
+        mark: 0x41_50_53,
         version: 1,
     };
 
+    // `APL`
     pub const LOG: Format = Format {
-        mark: [b'A', b'P', b'L'],
+        mark: 0x41_50_4C,
         version: 1,
     };
 
@@ -34,36 +34,22 @@ impl Format {
         if file.len() < Self::HEADER {
             return refusal::BAD_FILE;
         }
-        if !self.marks(file) {
+        if number(file, 0, 3) != self.mark as u64 {
             return refusal::BAD_FILE;
         }
-        if number(file, 3, 2) == self.version as u64 {
-            NOT_REFUSED
-        } else {
-            refusal::BAD_VERSION
+        if number(file, 3, 2) != self.version as u64 {
+            return refusal::BAD_VERSION;
         }
+        NOT_REFUSED
     }
 
-    fn marks(self, file: &[u8]) -> bool
-        requires { ⌜ format.headerLength ≤ length (now file) ⌝ }
-        ensures { λ r. ⌜ r ≡ format.marks self (now (file .entry)) ⌝ }
-    {
-        if file[0] != self.mark[0] {
-            return false;
-        }
-        if file[1] != self.mark[1] {
-            return false;
-        }
-        file[2] == self.mark[2]
-    }
-
-    fn header(self) -> [u8; 5]
+    fn header(self) -> [u8; Format::HEADER]
         ensures { λ r. ⌜ r ≡ format.header self ⌝ }
     {
         [
-            self.mark[0],
-            self.mark[1],
-            self.mark[2],
+            (self.mark / 0x100 / 0x100 % 0x100) as u8,
+            (self.mark / 0x100 % 0x100) as u8,
+            (self.mark % 0x100) as u8,
             (self.version / 0x100 % 0x100) as u8,
             (self.version % 0x100) as u8,
         ]
@@ -78,7 +64,7 @@ pub fn script_refusal(file: &[u8]) -> u8
 }
 
 // What a log begins with.
-pub fn log_header() -> [u8; 5]
+pub fn log_header() -> [u8; Format::HEADER]
     ensures { λ r. ⌜ r ≡ format.header format.log ⌝ }
 {
     Format::LOG.header()

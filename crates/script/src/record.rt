@@ -1,4 +1,4 @@
-// A script bytes, of 16 bytes: the call that it stands for.
+// A script record, of 16 bytes: the call that it stands for.
 ghost use mathlib.Core.Path.{_≡_};
 ghost use mathlib.Core.List.{[], _∷_};
 ghost use Prim.Native.Nat.{_≤_};

@@ -4,12 +4,13 @@ ghost use mathlib.Core.Bool.{cond};
 ghost use Prim.Native.Nat.{_+_, _*_, _/_, _%_, _≤_, _<_, min};
 ghost use lib.Dec.{eqb};
 ghost use lib.ListN.{length, take, drop};
-ghost use Rattle.devices.specs.Refusal.{illFormed};
+ghost use Rattle.bus.specs.Call.{answer};
 ghost use Rattle.bus.specs.View as bus;
 ghost use Rattle.script.specs.Script as records;
 ghost use Rattle.script.specs.Log as entries;
 ghost use Rattle.script.specs.Run as runs;
 ghost use Rattle.script.specs.View.{callOf, Conforms};
+ghost use Rattle.script.specs.Parts.{Played, Stepped};
 use crate::entry;
 use crate::record;
 use crate::record::Call;
@@ -28,29 +29,13 @@ pub struct Ran {
     pub machine: Machine,
 }
 
-impl Ran {
-    // The refusal of a whole run, which does nothing: the machine comes back as it is.
-    fn refused(machine: Machine) -> Self
-        ensures { λ r. ⌜ (r .refusal ≡ illFormed) × (r .done ≡ 0) × (r .machine ≡ machine) ⌝ }
-    {
-        Ran {
-            refusal: refusal::ILL_FORMED,
-            done: 0,
-            machine,
-        }
-    }
-}
-
 // Runs the whole records of the script, as many as the limit and the log leave room for, and logs each.
 pub fn run(machine: Machine, script: &[u8], log: &mut [u8], limit: usize) -> Ran
     ensures { λ r. ⌜ Conforms machine (runs.run limit (now (script .entry)) (now (log .entry))) r (now (log .exit)) ⌝ }
 {
-    if !machine.well_formed() {
-        return Ran::refused(machine);
-    }
     let whole = script.len() / record::LENGTH;
     let fitting = log.len() / entry::LENGTH;
-    play(machine, script, log, least(limit, least(whole, fitting)))
+    run_records(machine, script, log, least(limit, least(whole, fitting)))
 }
 
 // What the program does with a piece of its input: as `run` without a limit, but a tail of fewer bytes than a record has is
@@ -58,12 +43,9 @@ pub fn run(machine: Machine, script: &[u8], log: &mut [u8], limit: usize) -> Ran
 pub fn run_piece(machine: Machine, piece: &[u8], log: &mut [u8]) -> Ran
     ensures { λ r. ⌜ Conforms machine (runs.piece (now (piece .entry)) (now (log .entry))) r (now (log .exit)) ⌝ }
 {
-    if !machine.well_formed() {
-        return Ran::refused(machine);
-    }
     let given = with_tail(piece.len());
     let fitting = log.len() / entry::LENGTH;
-    play(machine, piece, log, least(given, fitting))
+    run_records(machine, piece, log, least(given, fitting))
 }
 
 // How many records are in so many bytes, a tail included.
@@ -79,24 +61,47 @@ fn with_tail(length: usize) -> usize
 }
 
 // Runs and logs the first `count` records; the last may be cut short.
-fn play(machine: Machine, script: &[u8], log: &mut [u8], count: usize) -> Ran
+fn run_records(machine: Machine, script: &[u8], log: &mut [u8], count: usize) -> Ran
     requires { ⌜ records.recordLength * count < length (now script) + records.recordLength ⌝ }
     requires { ⌜ entries.recordLength * count ≤ length (now log) ⌝ }
-    ensures { λ r. ⌜ Conforms machine (runs.ran count (now (script .entry)) (now (log .entry))) r (now (log .exit)) ⌝ }
+    ensures { λ r. ⌜ Conforms machine (runs.judged count (now (script .entry)) (now (log .entry))) r (now (log .exit)) ⌝ }
 {
-    let mut machine = machine;
-    let mut i = 0;
-    while i < count {
-        let answer = call(machine, decode(record_at(script, i)));
-        entry::put(log, entry::LENGTH * i, answer);
-        machine = answer.machine;
-        i += 1;
+    if !machine.well_formed() {
+        return Ran {
+            refusal: refusal::ILL_FORMED,
+            done: 0,
+            machine,
+        };
     }
     Ran {
         refusal: refusal::NOT_REFUSED,
         done: count,
-        machine,
+        machine: play(machine, script, log, count),
     }
+}
+
+fn play(machine: Machine, script: &[u8], log: &mut [u8], count: usize) -> Machine
+    requires { ⌜ records.recordLength * count < length (now script) + records.recordLength ⌝ }
+    requires { ⌜ entries.recordLength * count ≤ length (now log) ⌝ }
+    ensures { λ r. ⌜ Played (runs.ran count (now (script .entry)) (now (log .entry)) (bus.machineOf machine)) r (now (log .exit)) ⌝ }
+{
+    let mut machine = machine;
+    let mut i = 0;
+    while i < count {
+        machine = step(machine, record_at(script, i), log, entry::LENGTH * i);
+        i += 1;
+    }
+    machine
+}
+
+// Does one record, and logs it from `at` on.
+fn step(machine: Machine, bytes: &[u8], log: &mut [u8], at: usize) -> Machine
+    requires { ⌜ at + entries.recordLength ≤ length (now log) ⌝ }
+    ensures { λ r. ⌜ Stepped (answer (records.callIn (now (bytes .entry))) (bus.machineOf machine)) (now (log .entry)) at r (now (log .exit)) ⌝ }
+{
+    let answer = call(machine, decode(bytes));
+    entry::put(log, at, answer);
+    answer.machine
 }
 
 // The record at a place; the last may be cut short.

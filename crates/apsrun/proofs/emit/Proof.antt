@@ -6,12 +6,12 @@ use Rattle.apsrun.proofs.emit.Statement.{statement}
 use Rattle.apsrun.proofs.emit.Tie as tie
 
 abbrev Inv-loop : tie.InvT-loop
-Inv-loop bytes count₀ turns₀ t5 count turns = count ≤ length bytes
+Inv-loop bytes count₀ turns₀ t5 t6 count turns = count ≤ length bytes
 
 abbrev μ-loop : tie.MeasureT-loop
-μ-loop bytes count₀ turns₀ t5 count turns = turns
+μ-loop bytes count₀ turns₀ t5 t6 count turns = turns
 
 pub emit-spec : {M : Type 1} → statement M
 emit-spec =
     tie.close
-    (tie.spec Inv-loop μ-loop (λ c. search needs) (λ c. search needs) (λ c. search needs) (λ c. search needs) (λ c. search needs) (λ c. search needs) (λ c κs. search needs) (λ c κs. search needs) (λ c. search needs) (λ c κs. search needs) (λ c. search needs) (λ c. search needs) (λ c. search needs) (λ c. search needs) (λ c. search needs) (λ c. search needs) (λ c κs. search needs) (λ c. search needs) (λ c. search needs) (λ c. search needs) (λ c. search needs))
+    (tie.spec Inv-loop μ-loop (λ c. search needs) (λ c. search needs) (λ c. search needs) (λ c. search needs) (λ c. search needs) (λ c. search needs) (λ c κs. search needs) (λ c. search needs) (λ c κs. search needs) (λ c. search needs) (λ c κs. search needs) (λ c. search needs) (λ c κs. search needs) (λ c. search needs) (λ c. search needs) (λ c. search needs) (λ c. search needs) (λ c. search needs) (λ c. search needs) (λ c κs. search needs) (λ c. search needs) (λ c. search needs) (λ c. search needs) (λ c. search needs))

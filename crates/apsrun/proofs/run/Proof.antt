@@ -2,12 +2,13 @@
 use borrow.Author.Needs.{needs}
 use mathlib.Core.Path.{_≡_}
 use lib.ListN.{length}
+use Rattle.script.specs.Cut.{pieceLength, logLength}
 use Rattle.apsrun.proofs.Buffers.{counted, end-fits, end-within, end-counted}
 use Rattle.apsrun.proofs.run.Statement.{statement}
 use Rattle.apsrun.proofs.run.Tie as tie
 
 abbrev Inv-loop : tie.InvT-loop
-Inv-loop script₀ log₀ machine₀ turns₀ script log machine turns = (length script ≡ 4096) × (length log ≡ 12288)
+Inv-loop script₀ log₀ machine₀ turns₀ script log machine turns = (length script ≡ pieceLength) × (length log ≡ logLength)
 
 abbrev μ-loop : tie.MeasureT-loop
 μ-loop script₀ log₀ machine₀ turns₀ script log machine turns = turns

@@ -8,68 +8,61 @@ use native.Mathlib.Nat.{div-add-mod'}
 use lib.Dec.{eqb}
 use lib.ListN.{length}
 use borrow.Author.Tests.{not-true, not-false, eq-eqb, ne-eqb}
-use Rattle.devices.specs.Refusal.{illFormed}
+use Rattle.devices.specs.Refusal.{notRefused, illFormed}
 use Rattle.bus.specs.Machine as bus
+use Rattle.bus.specs.SlowRun.Laws.{length-answers}
 use Rattle.bus.specs.View.{machineOf}
 use Rattle.bus.specs.declared.machine.Machine.{Machine}
-use Rattle.script.specs.Script as scripts
-use Rattle.script.specs.Log as logs
+use Rattle.script.specs.Script.{calls}
+use Rattle.script.specs.Script.Laws.{length-calls}
 use Rattle.script.specs.Run as run
 use Rattle.script.specs.Run.Laws.{tail-starts}
 use Rattle.script.specs.View.{Conforms}
+use Rattle.script.specs.Parts.{Played}
 use Rattle.script.specs.declared.run.Ran.{Ran}
 
--- What a run promises is about its definition at its own machine.
-defined-at :
-    (m : Machine) (r : Ran) (bytes : List ℕ) (d f : bus.Machine → run.Ran) → d (machineOf m) ≡ f (machineOf m) →
-    Conforms m d r bytes → Conforms m f r bytes
-defined-at m r bytes d f e c =
-    record {
-      number = rw e at (c .number);
-      done = rw e at (c .done);
-      steps = rw e at (c .steps);
-      log = rw e at (c .log);
-      machine = rw e at (c .machine);
-      same = c .same;
-    }
+-- By the test for 9: records that are done, and a run that is refused.
+module _ (m : Machine) (b : Bool) (e : b ≡ bus.wellFormed (machineOf m)) (script log bytes : List ℕ) (n : ℕ) (r : Ran) where
+  pub records-done :
+      not b ≡ false → r .refusal ≡ notRefused → r .done ≡ n →
+      Played (run.ran n script log (machineOf m)) (r .machine) bytes → Conforms m (run.judged n script log) r bytes
+  records-done t number done played =
+      let w : bus.wellFormed (machineOf m) ≡ true = sym e ∙ not-false b t in
+      record {
+        number = rw w number;
+        done = rw w done;
+        steps = done ∙ rw w (sym (length-answers (calls n script) (machineOf m) ∙ length-calls n script));
+        log = rw w (played .log);
+        machine = rw w (played .machine);
+        same = λ refused. absurd (refused number);
+      }
 
-module _
-    (m : Machine) (b : Bool) (e : b ≡ bus.wellFormed (machineOf m)) (script log bytes : List ℕ) (r : Ran) where
-  module _ (t : not b ≡ false) (n k : ℕ) (c : Conforms m (run.ran n script log) r bytes) where
-    pub run-done : (limit : ℕ) → n ≡ min limit k → k ≡ min (run.whole script) (run.fitting log) → Conforms m (run.run limit script log) r bytes
-    unfolding run.run
-    run-done limit f g =
-        defined-at m r bytes (run.ran n script log) (run.run limit script log)
-        (rw (← e, not-false b t, ← g, ← f) refl) c
+  pub records-refused :
+      not b ≡ true → r .refusal ≡ illFormed → r .done ≡ 0 → r .machine ≡ m → bytes ≡ log →
+      Conforms m (run.judged n script log) r bytes
+  records-refused t number done same untouched =
+      let ill : bus.wellFormed (machineOf m) ≡ false = sym e ∙ not-true b t in
+      record {
+        number = rw ill number;
+        done = rw ill done;
+        steps = rw ill done;
+        log = rw ill untouched;
+        machine = rw ill (ap machineOf same);
+        same = λ no. same;
+      }
 
-    pub piece-done : k ≡ run.withTail script → n ≡ min k (run.fitting log) → Conforms m (run.piece script log) r bytes
-    unfolding run.piece
-    piece-done f g =
-        defined-at m r bytes (run.ran n script log) (run.piece script log)
-        (rw (← e, not-false b t, ← f, ← g) refl) c
+-- How many records a run and a piece do.
+module _ (m : Machine) (script log bytes : List ℕ) (n k : ℕ) (r : Ran) (c : Conforms m (run.judged n script log) r bytes) where
+  pub run-done :
+      (limit : ℕ) → n ≡ min limit k → k ≡ min (run.whole script) (run.fitting log) →
+      Conforms m (run.run limit script log) r bytes
+  unfolding run.run
+  run-done limit f g = let least : n ≡ min limit (min (run.whole script) (run.fitting log)) = rw (← g) f in rw least at c
 
-  module _
-      (t : not b ≡ true)
-      (refused : (r .refusal ≡ illFormed) × (r .done ≡ 0) × (r .machine ≡ m)) (untouched : bytes ≡ log) where
-    nine : Conforms m (run.refused log) r bytes
-    nine =
-        record {
-          number = refused .0;
-          done = refused .1;
-          steps = refused .1;
-          log = untouched;
-          machine = ap machineOf (refused .2);
-          same = λ no. refused .2;
-        }
-
-    pub run-refused : (limit : ℕ) → Conforms m (run.run limit script log) r bytes
-    unfolding run.run
-    run-refused limit =
-        defined-at m r bytes (run.refused log) (run.run limit script log) (rw (← e, not-true b t) refl) nine
-
-    pub piece-refused : Conforms m (run.piece script log) r bytes
-    unfolding run.piece
-    piece-refused = defined-at m r bytes (run.refused log) (run.piece script log) (rw (← e, not-true b t) refl) nine
+  pub piece-done :
+      k ≡ run.withTail script → n ≡ min k (run.fitting log) → Conforms m (run.piece script log) r bytes
+  unfolding run.piece
+  piece-done f g = let least : n ≡ min (run.withTail script) (run.fitting log) = rw (← f) g in rw least at c
 
 -- The records that are done are there, and the log has room for them.
 pub whole-given : (count limit k n m : ℕ) → count ≡ min limit k → k ≡ min (n / 16) (m / 48) → 16 * count < n + 16

@@ -5,8 +5,9 @@ use mathlib.Core.List.{List, [], _∷_}
 use native.Mathlib.Omega.{arith}
 use lib.ListN.{length, take}
 use borrow.Author.Tests.{le-ltb}
-use Rattle.script.specs.Number.{number}
-use Rattle.script.specs.Format.{headerLength, refusal}
+use Rattle.devices.specs.Refusal.{notRefused}
+use Rattle.script.specs.Number.{number, encoded}
+use Rattle.script.specs.Format.{script, log, header, headerLength, refusal}
 use Rattle.script.specs.declared.format.Format.{Format}
 
 -- A file is judged by its header.
@@ -19,3 +20,8 @@ refusal-front f (a ∷ b ∷ c ∷ []) = refl
 refusal-front f (a ∷ b ∷ c ∷ d ∷ []) = refl
 refusal-front f (a ∷ b ∷ c ∷ d ∷ e ∷ rest) =
     rw (le-ltb (suc (suc (suc (suc (suc (length rest)))))) headerLength (omega arith)) refl
+
+-- A file that begins with its header is accepted.
+pub own-header : (refusal script (header script) ≡ notRefused) × (refusal log (header log) ≡ notRefused)
+unfolding number encoded
+own-header = (refl, refl)

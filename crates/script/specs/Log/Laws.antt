@@ -1,19 +1,13 @@
 -- What follows from the definition of a log record. Assumes nothing.
 use Prim.Native.Nat.{ℕ, zero, suc, _+_, _*_, _/_}
 use mathlib.Core.Path.{_≡_, refl, sym, ap, _∙_}
-use mathlib.Core.Bool.{Bool}
 use mathlib.Core.List.{List, [], _∷_, _++_, append-assoc}
 use native.Mathlib.Omega.{arith}
 use lib.ListN.{length, take, drop, length-append}
 use lib.Seq.{take-at, drop-at, take-take, take-add}
 use Rattle.bus.specs.Machine.{Answer}
 use Rattle.script.specs.Number.{encoded}
-use Rattle.script.specs.Number.Laws.{length-encoded}
-use Rattle.script.specs.Log.{recordLength, access, span, entry, entries}
-
-pub length-access : (refusal : ℕ) (emitted : Bool) (byte levels value : ℕ) → length (access refusal emitted byte levels value) ≡ 8
-unfolding encoded
-length-access refusal emitted byte levels value = refl
+use Rattle.script.specs.Log.{recordLength, entry, entries}
 
 pub length-entry : (a : Answer) → length (entry a) ≡ recordLength
 unfolding encoded entry

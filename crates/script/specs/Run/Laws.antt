@@ -23,7 +23,8 @@ use Rattle.script.specs.Script.{calls}
 use Rattle.script.specs.Script.Laws.{length-calls, calls-add, calls-append, tail-malformed}
 use Rattle.script.specs.Log.{recordLength, entry, entries}
 use Rattle.script.specs.Log.Laws.{length-entries, entries-append}
-use Rattle.script.specs.Run.{Ran, ran, refused, whole, fitting, withTail}
+use Rattle.script.specs.Run.{Ran, judged, whole, fitting, withTail}
+use Rattle.script.specs.Program.{tailLog}
 use Rattle.script.specs.Cut.{Cut, uncut, cut, pieceLength, logLength}
 
 -- What n records write.
@@ -39,13 +40,13 @@ pub record Did (n : ℕ) (script : List ℕ) (m : bus.Machine) (count : ℕ) (by
   pub log : take (recordLength * count) bytes ≡ entries (answers (calls count script) m)
   pub machine : last ≡ after (calls count script) m
 
-pub judged-did :
+pub runs-did :
     (n : ℕ) (script log : List ℕ) (m : bus.Machine) (count : ℕ) (bytes : List ℕ) (last : bus.Machine) →
-    (let d = cond (wellFormed m) (ran n script log m) (refused log m) in
+    (let d = judged n script log m in
     count ≡ d .done → bytes ≡ d .log → last ≡ d .machine →
     Did n script m count bytes last)
 unfolding wrote
-judged-did n script log m count bytes last =
+runs-did n script log m count bytes last =
     tested (wellFormed m)
     (λ w. rw w (λ e f g. record {
       done = rw w e;
@@ -89,7 +90,7 @@ module _
       (joined ≡ entries (answers cs m)) × (last ≡ after cs m))
   series-joined uncut (next {bytes} {count} d none) =
       rw (← d .done) (append-nil (take (recordLength * count) bytes) ∙ d .log, d .machine)
-  series-joined {m} (cut {script} {rest} e c) (next {n} {count} d s) =
+  series-joined {m} (cut {piece = script} {rest} e c) (next {n} {count} d s) =
       let kept : wellFormed n ≡ wellFormed m = ap wellFormed (d .machine) ∙ after-keeps (calls count script) m in
       let later = rw kept at (series-joined c s) in
       let first = calls count script in
@@ -142,7 +143,7 @@ piece-fits piece log h e = rw e (omega (arith, tail-starts (length piece)))
 -- The log has room for the records that are done.
 pub done-fits :
     (n : ℕ) (script log : List ℕ) (m : bus.Machine) (count : ℕ) →
-    count ≡ cond (wellFormed m) (ran (min n (fitting log)) script log m) (refused log m) .done →
+    count ≡ judged (min n (fitting log)) script log m .done →
     recordLength * count ≤ length log
 done-fits n script log m count =
     chosen (λ b (d : Ran). count ≡ d .done → recordLength * count ≤ length log) (wellFormed m) _ _
@@ -152,9 +153,6 @@ done-fits n script log m count =
 malformed-well : (m : bus.Machine) → wellFormed m ≡ true → answer malformed m ≡ bus.refused badRecord m
 unfolding answer refusal
 malformed-well m w = rw w refl
-
-abbrev pub tailLog : (script : List ℕ) → bus.Machine → List ℕ
-tailLog script m = cond (eqb (length script % scripts.recordLength) 0) [] (entry (bus.refused badRecord m))
 
 pub tail-answered :
     (script : List ℕ) (m : bus.Machine) → wellFormed m ≡ true →

@@ -9,7 +9,7 @@ use Rattle.script.specs.Lent.{wrote}
 use Rattle.script.specs.Script.{calls}
 use Rattle.script.specs.Log.{entries}
 use Rattle.script.proofs.Writing.{none-written}
-use Rattle.script.proofs.run.Playing.{next-record, all-records}
+use Rattle.script.proofs.run.Playing.{next-record, all-played}
 use Rattle.script.proofs.run.play.Statement.{statement}
 use Rattle.script.proofs.run.play.Tie as tie
 
@@ -23,17 +23,15 @@ abbrev μ-loop : tie.MeasureT-loop
 
 loop-again : tie.Need-loop-again Inv-loop μ-loop
 loop-again c =
-    let written = c .before .before .before in
-    let called = written .before .before in
-    let read = called .before .before in
+    let stepped = c .before .before in
+    let read = stepped .before .before in
     let loop = read .before .before .loop in
     let next =
-    next-record _ _ _ (loop .machine) (loop .i) (read .record-at .result .now) _ (called .call .result) (loop .inv .2)
-    (read .record-at .ensures) (called .before .decode .ensures) (called .call .ensures) _ _ (loop .inv .3)
-    (written .put .ensures) (search needs) in
+    next-record _ _ _ (loop .machine) (stepped .step .result) (loop .i) (read .record-at .result .now) (loop .log) _ (loop .inv .2)
+    (loop .inv .3) (read .record-at .ensures) (stepped .step .ensures) (search needs) in
     (search needs, search needs, next .0, next .1)
 
 pub play-spec : {M : Type 1} → statement M
 play-spec =
     tie.close
-    (tie.spec Inv-loop μ-loop (λ c. (search needs, refl, refl, search none-written)) (λ c κs. search needs) (λ c κs. search needs) (λ c κs. search needs) (λ c. search needs) (λ c κs. search needs) (λ c. search needs) (λ c. search needs) loop-again (λ c. search needs) (λ c. search all-records))
+    (tie.spec Inv-loop μ-loop (λ c. (search needs, refl, refl, search none-written)) (λ c κs. search needs) (λ c. search needs) (λ c κs. search needs) (λ c. search needs) (λ c. search needs) loop-again (λ c. search needs) (λ c. search all-played))

@@ -1,7 +1,7 @@
--- The mark has three bytes. Assumes nothing.
+-- The bytes are those of the two numbers. Assumes nothing.
 use borrow.Author.Needs.{needs}
+use mathlib.Core.Path.{refl}
 use Rattle.script.specs.Number.{encoded}
-use Rattle.script.proofs.format.Judging.{three}
 use Rattle.script.proofs.format.Format.header.Statement.{statement}
 use Rattle.script.proofs.format.Format.header.Tie as tie
 
@@ -9,4 +9,4 @@ pub header-spec : {M : Type 1} → statement M
 unfolding encoded
 header-spec =
     tie.close
-    (tie.spec (λ c. search needs) (λ c. search needs) (λ c. search needs) (λ c. search needs) (λ c. search needs) (λ c. search (three, needs)))
+    (tie.spec (λ c. search needs) (λ c. search needs) (λ c. search needs) (λ c. search needs) (λ c. search needs) (λ c. refl))

@@ -1,4 +1,4 @@
--- x Assumes nothing.
+-- Each field is read from its place. Assumes nothing.
 use borrow.Author.Needs.{needs}
 use Rattle.script.proofs.record.Fields.of.Statement.{statement}
 use Rattle.script.proofs.record.Fields.of.Tie as tie

@@ -1,0 +1,32 @@
+-- What functions of the crate that are not public promise; no public contract cites this.
+use Prim.Native.Nat.{ℕ}
+use mathlib.Core.Path.{_≡_}
+use mathlib.Core.Bool.{Bool, cond}
+use mathlib.Core.List.{List, [], _∷_, _++_}
+use Rattle.bus.specs.Machine as bus
+use Rattle.bus.specs.View.{machineOf}
+use Rattle.bus.specs.declared.machine.Machine.{Machine}
+use Rattle.script.specs.Number.{encoded}
+use Rattle.script.specs.Lent.{wrote}
+use Rattle.script.specs.Log.{entry}
+use Rattle.script.specs.Run.{Ran}
+
+-- numbers of 8 bytes, one behind the other
+abbrev pub longs : List ℕ → List ℕ
+longs [] = []
+longs (n ∷ ns) = encoded 8 n ++ longs ns
+
+-- the first 8 bytes of a log record
+abbrev pub access : (refusal : ℕ) (emitted : Bool) (byte levels value : ℕ) → List ℕ
+access refusal emitted byte levels value =
+    encoded 1 refusal ++ encoded 1 (cond emitted 1 0) ++ encoded 1 byte ++ encoded 1 levels ++ encoded 4 value
+
+-- The machine that some records leave, and the log that they are written to.
+pub record Played (d : Ran) (m : Machine) (bytes : List ℕ) : Type 0 where
+  pub log : bytes ≡ d .log
+  pub machine : machineOf m ≡ d .machine
+
+-- One record, with its answer, is logged from a place on.
+pub record Stepped (a : bus.Answer) (before : List ℕ) (at : ℕ) (m : Machine) (bytes : List ℕ) : Type 0 where
+  pub log : bytes ≡ wrote before at (entry a)
+  pub machine : machineOf m ≡ a .machine
