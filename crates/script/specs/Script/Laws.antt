@@ -1,13 +1,13 @@
 -- What follows from the definition of a script's calls. Assumes nothing.
 use Prim.Native.Nat.{ℕ, zero, suc, _+_, _*_, _/_, _≤_, _<_}
-use mathlib.Core.Path.{_≡_, refl, sym, ap, _∙_}
+use mathlib.Core.Path.{_≡_, refl, ap, _∙_}
 use mathlib.Core.List.{List, [], _∷_, _++_}
 use native.Mathlib.Omega.{arith}
 use native.Mathlib.Nat.{zero-add, suc-add, div-add-mod', mod-lt}
 use lib.ListN.{length, take, drop, length-take, length-drop}
 use lib.Seq.{drop-drop, drop-at, take-append-le, drop-append-le}
 use borrow.Author.Tests.{lt-ltb}
-use Rattle.bus.specs.Call.{Call, malformed}
+use Rattle.bus.specs.Call.{malformed}
 use Rattle.script.specs.Script.{recordLength, callIn, calls}
 
 pub length-calls : (n : ℕ) (script : List ℕ) → length (calls n script) ≡ n

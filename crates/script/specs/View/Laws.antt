@@ -1,11 +1,11 @@
 -- What callers may take from the contract of a run. Assumes nothing.
-use Prim.Native.Nat.{ℕ, _*_, _≤_, min}
+use Prim.Native.Nat.{ℕ, _*_, _≤_}
 use mathlib.Core.List.{List}
 use lib.ListN.{length}
 use Rattle.bus.specs.View.{machineOf}
 use Rattle.bus.specs.declared.machine.Machine.{Machine}
 use Rattle.script.specs.Log.{recordLength}
-use Rattle.script.specs.Run.{whole, run, withTail, piece}
+use Rattle.script.specs.Run.{withTail, piece}
 use Rattle.script.specs.Run.Laws.{done-fits}
 use Rattle.script.specs.View.{Conforms}
 use Rattle.script.specs.declared.run.Ran.{Ran}

@@ -2,7 +2,6 @@
 use borrow.Author.Needs.{needs}
 use Prim.Native.Nat.{_-_, _^_, _≤_, _<_}
 use mathlib.Core.Path.{_≡_}
-use native.Mathlib.Omega.{arith}
 use Rattle.script.specs.Number.{number}
 use Rattle.script.proofs.number.Digits.{number-next, below-next, fits-scaled, fits-next, number-all, below-all}
 use Rattle.script.proofs.number.number.Statement.{statement}

@@ -1,6 +1,5 @@
 -- By the test for 9. Assumes nothing.
 use borrow.Author.Needs.{needs}
-use mathlib.Core.Path.{refl}
 use Rattle.script.proofs.run.Runs.{records-done, records-refused}
 use Rattle.script.proofs.run.run_records.Statement.{statement}
 use Rattle.script.proofs.run.run_records.Tie as tie

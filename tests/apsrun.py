@@ -1,0 +1,597 @@
+"""The cases of tests/apsrun, which says what is printed. Arguments: the program, and a folder with faults.so in it."""
+import collections
+import os
+import random
+import signal
+import struct
+import subprocess
+import sys
+import threading
+
+PROGRAM, FOLDER = sys.argv[1:]
+SECONDS = 5  # in which any run ends
+
+# Scripts and logs, as 01 lays them out.
+
+PIECE = 4096
+PORTS = [0x80000100, 0x80100100, 0x80100200, 0x80100300, 0x80100400, 0x80100500]
+DATA, STATUS, CONTROL, SCALER = 0x00, 0x04, 0x08, 0x0C
+RE, TE, RI, TI = 1, 2, 4, 8
+UNIT = 0x80000300
+PRESCALER, PRESCALER_RELOAD, CONFIG = UNIT, UNIT + 4, UNIT + 8
+TIMER1, TIMER2, TIMER3, TIMER4 = TIMERS = [UNIT + 0x10 * n for n in (1, 2, 3, 4)]  # counter, +4 reload, +8 control
+LARGEST = 2**64 - 1
+
+
+def script(*records):
+    return b"APS\x00\x01" + b"".join(records)
+
+
+def log(*entries):
+    return b"APL\x00\x01" + b"".join(entries)
+
+
+def record(kind, one=0, two=0, address=0, number=0):
+    return struct.pack(">BBBxIQ", kind, one, two, address, number)
+
+
+def read(address, size=4):
+    return record(1, size, address=address)
+
+
+def write(address, value, size=4):
+    return record(2, size, address=address, number=value)
+
+
+def offer(port, byte):
+    return record(3, port, byte)
+
+
+def advance(cycles):
+    return record(4, number=cycles)
+
+
+def skip(limit):
+    return record(5, number=limit)
+
+
+RESET = record(6)
+
+
+def entry(number=0, emitted=None, levels=0, value=0, cycles=0, pulses=(0, 0, 0, 0)):
+    return struct.pack(">BBBBIQ4Q", number, emitted is not None, emitted or 0, levels, value, cycles, *pulses)
+
+
+# The bytes that must be 0 in a record of each kind.
+BLANKS = {
+    1: [2, 3, *range(8, 16)],
+    2: [2, 3, *range(8, 12)],
+    3: range(3, 16),
+    4: range(1, 8),
+    5: range(1, 8),
+    6: range(1, 16),
+}
+
+
+def altered(record, at, byte):
+    return record[:at] + bytes([byte]) + record[at + 1:]
+
+
+def refusal(size, address):
+    """The number that an access gets, by 01's table."""
+    base = next((base for base in [*PORTS, UNIT] if base <= address < base + 0x100), None)
+    if size not in (1, 2, 4):
+        return 1
+    if base is None:
+        return 2
+    if address + size > base + 0x100:
+        return 3
+    if address % size:
+        return 4
+    return 5 if size < 4 else 0
+
+
+class Walk:
+    """A long script, and the log that 01's rules give it. Each step adds some records, each with its entry, and keeps what
+    later ones need to know of the machine: all of the ports, the prescaler's value and the timers' reloads. Between two
+    steps no timer is enabled, and only the step `time` has ticks."""
+
+    def __init__(self, length):
+        self.any = random.Random(length)
+        self.records, self.entries = [], []
+        self.reset()
+        ports = [self.control, self.scaler, self.data, self.offer, self.take]
+        steps = [*ports, *ports, self.look, self.reload, self.wait, self.time, self.malformed, self.refused, self.nothing]
+        while len(self.records) < length:
+            self.any.choice([*20 * steps, self.reset])()
+        self.records, self.entries = self.records[:length], self.entries[:length]
+
+    def say(self, record, **answer):
+        self.records.append(record)
+        self.entries.append(entry(levels=sum(level << port for port, level in enumerate(self.levels)), **answer))
+
+    def draw(self):
+        return self.any.randrange(6), self.any.getrandbits(32)
+
+    def work_out_level(self, port):
+        control = self.controls[port]
+        self.levels[port] = int(control & TI != 0 or (control & RI != 0 and self.queues[port] != []))
+
+    def reset(self):
+        self.controls, self.scalers, self.queues, self.levels = [2**31] * 6, [0] * 6, [[] for _ in PORTS], [0] * 6
+        self.prescaler, self.reloads = 0xFFFF, [0, 0, 0, 0xFFFF]
+        self.say(RESET)
+        self.say(write(TIMER4 + 8, 0))
+
+    def control(self):
+        port, value = self.draw()
+        self.controls[port] = value | 2**31
+        self.work_out_level(port)
+        self.say(write(PORTS[port] + CONTROL, value))
+
+    def scaler(self):
+        port, value = self.draw()
+        self.scalers[port] = value & 0xFF
+        self.say(write(PORTS[port] + SCALER, value))
+
+    def data(self):
+        port, value = self.draw()
+        self.say(write(PORTS[port] + DATA, value), emitted=value & 0xFF if self.controls[port] & TE else None)
+
+    def offer(self):
+        port = self.any.randrange(8)
+        for byte in self.any.randbytes(self.any.randrange(1, 6)):
+            if port > 5:
+                self.say(offer(port, byte), number=6)
+            elif not self.controls[port] & RE:
+                self.say(offer(port, byte), number=7)
+            elif len(self.queues[port]) == 8:
+                self.say(offer(port, byte), number=8)
+            else:
+                self.queues[port].append(byte)
+                self.work_out_level(port)
+                self.say(offer(port, byte))
+
+    def take(self):
+        port, _ = self.draw()
+        takes = self.controls[port] & RE and self.queues[port]
+        self.say(read(PORTS[port] + DATA), value=self.queues[port].pop(0) if takes else 0)
+
+    def look(self):
+        port, _ = self.draw()
+        waiting = len(self.queues[port])
+        self.say(read(PORTS[port] + STATUS), value=0x80000086 + (waiting > 0) + (waiting << 26))
+        self.say(read(PORTS[port] + CONTROL), value=self.controls[port])
+        self.say(read(PORTS[port] + SCALER), value=self.scalers[port])
+        self.say(read(PRESCALER), value=self.prescaler)
+        for timer, reload in zip(TIMERS, self.reloads):
+            self.say(read(timer + 4), value=reload)
+
+    def reload(self):
+        timer, value = self.any.randrange(4), self.any.getrandbits(32)
+        self.reloads[timer] = value
+        self.say(write(TIMERS[timer] + 4, value))
+
+    def wait(self):
+        """Some cycles without a tick, and a new prescaler value now and then."""
+        cycles = self.any.randrange(self.prescaler + 1)
+        self.prescaler -= cycles
+        self.say(self.any.choice([advance, skip])(cycles), cycles=cycles)
+        if self.prescaler < 0x1000:
+            value = self.any.getrandbits(32)
+            self.prescaler = value & 0xFFFF
+            self.say(write(PRESCALER, value))
+
+    def time(self):
+        """One timer alone. Ticks: in the first cycle, and in each `period`-th after it. Pulses: at each `reload`-th tick."""
+        n, timer = self.any.choice([*enumerate(TIMERS)])
+        period, reload, cycles = (self.any.randrange(1, 2 ** self.any.randrange(1, bits + 1)) for bits in (15, 32, 64))
+        period += 1
+        self.say(write(PRESCALER, 0))
+        self.say(write(PRESCALER_RELOAD, period - 1))
+        self.say(write(timer + 4, reload))
+        self.say(write(timer + 8, 0x0F))  # EN, RS, IE, and LD: the counter takes the reload
+        passes = self.any.choice([advance, skip])
+        passed = min(cycles, (reload - 1) * period + 1) if passes is skip else cycles
+        ticks = (passed - 1) // period + 1
+        self.say(passes(cycles), cycles=passed, pulses=[ticks // reload if other == timer else 0 for other in TIMERS])
+        self.say(read(timer), value=reload - ticks % reload)
+        self.say(read(timer + 8), value=0x1B if ticks >= reload else 0x0B)
+        self.say(write(timer + 8, 0x10))
+        self.prescaler, self.reloads[n] = period - 1 - (passed - 1) % period, reload
+
+    def malformed(self):
+        """Another kind, or a record that would show in the machine but for one byte."""
+        port, value = self.draw()
+        base = PORTS[port]
+        good = [read(base + DATA), write(base + CONTROL, value), offer(port, 0x55), advance(1), skip(1), RESET]
+        record = self.any.choice(good)
+        if self.any.randrange(2):
+            self.say(altered(record, self.any.choice(BLANKS[record[0]]), self.any.randrange(1, 256)), number=10)
+        else:
+            self.say(altered(record, 0, self.any.choice([0, *range(7, 256)])), number=10)
+
+    def refused(self):
+        address = self.any.choice([*PORTS, UNIT]) + self.any.choice([*range(-4, 16), *range(0xFC, 0x104)])
+        size = self.any.choice([0, 1, 1, 2, 2, 3, 4, 4, 255])
+        number = refusal(size, address)
+        if number:
+            self.say(read(address, size), number=number)
+            self.say(write(address, 0xFFFFFFFF, size), number=number)
+
+    def nothing(self):
+        """Offsets without a register."""
+        address = self.any.choice([*(port + 0x10 for port in PORTS), UNIT + 0x0C, UNIT + 0x2C, UNIT + 0x50, UNIT + 0xFC])
+        self.say(write(address, 0xFFFFFFFF))
+        self.say(read(address))
+
+
+# The table of cases: what is tried, the script, what must come of it, and how the program is run (the arguments of `run`).
+
+CASES = []
+
+# What must come of a run that fails: a message that names the stream, and on standard output a beginning of the log, of
+# so many bytes at the most; where `whole` is set, it ends with a whole record.
+Failure = collections.namedtuple("Failure", "stream log most whole")
+
+
+def case(what, data, want, **how):
+    CASES.append((what, data, want, how))
+
+
+def example(what, *pairs):
+    """A script whose records stand beside their log records."""
+    case(what, script(*(pair[0] for pair in pairs)), log(*(pair[1] for pair in pairs)))
+
+
+# 1. Headers.
+BEHIND = b"", b"\x00", read(CONFIG), 300 * read(CONFIG) + b"\x01"
+WRONG_MARKS = [altered(b"APS", at, byte) for at in range(3) for byte in (0, b"APS"[at] ^ 0x20)]
+for header in sorted({whole[:length] for whole in (b"APS\x00\x01", b"APL\x00\x01", bytes(5)) for length in range(5)}):
+    case(f"a script of {len(header)} bytes ({header.hex(' ')})", header, b"refused 11\n")
+for behind in BEHIND:
+    for version in (1, 0, 2, 0x0100, 0x0101):
+        for mark in (b"APS", *WRONG_MARKS):
+            header = mark + version.to_bytes(2, "big")
+            if header != b"APS\x00\x01":
+                refused = b"refused 12\n" if mark == b"APS" else b"refused 11\n"
+                case(f"header {header.hex(' ')} and {len(behind)} bytes behind it", header + behind, refused)
+    case(f"the log's mark and {len(behind)} bytes behind its header", log(behind), b"refused 11\n")
+case("a header alone", script(), b"\x41\x50\x4C\x00\x01")
+for byte in (0, 1, 10, 255):
+    case(f"a header and one byte {byte}", script(bytes([byte])), b"\x41\x50\x4C\x00\x01" + b"\x0A" + bytes(47))
+
+# 2. Tails, behind records that raise and lower lines. A piece holds 256 records.
+for count in (0, 1, 255, 256, 257):
+    records, entries, levels = [], [], 0
+    for n in range(count):
+        port, raised = n % 6, n % 4 != 3
+        levels = levels & ~(1 << port) | raised << port
+        records.append(write(PORTS[port] + CONTROL, TI if raised else 0))
+        entries.append(entry(levels=levels))
+    assert count == 0 or levels != 0
+    case(f"{count} records and no tail", script(*records), log(*entries))
+    for length in range(1, 16):
+        for tail in (bytes(15), 15 * b"\xFF", RESET, write(PORTS[1] + CONTROL, TI)):
+            tail = tail[:length]
+            what = f"{count} records and a tail of {length} bytes ({tail.hex(' ')})"
+            case(what, script(*records, tail), log(*entries, entry(10, levels=levels)))
+
+# 3. Scripts of many pieces: the shorter ends in a tail, the longest at the end of a piece.
+TAIL = RESET[:9]
+short, long, even = Walk(600), Walk(5000), Walk(6144)
+last_levels = short.entries[-1][3]
+SHORT = script(*short.records, TAIL), log(*short.entries, entry(10, levels=last_levels))
+LONG = script(*long.records), log(*long.entries)
+case("600 records and a tail", *SHORT)
+case("5000 records", *LONG)
+case("6144 records, which are 24 pieces", script(*even.records), log(*even.entries))
+
+
+# Each byte that must be 0, each kind, each size and each port number, in a machine with two lines raised and port 0 quiet.
+GOOD = read(PORTS[0] + CONTROL), write(PORTS[0] + CONTROL, TI), offer(4, 0), advance(1), skip(1), RESET
+KINDS = [0, *range(7, 256)]
+RAISED = (write(PORTS[2] + CONTROL, TI), entry(levels=0b000100)), (write(PORTS[5] + CONTROL, TI), entry(levels=0b100100))
+UNCHANGED = (read(PRESCALER), entry(levels=0b100100, value=0xFFFF))
+
+
+def with_two_raised(what, *pairs):
+    example(what, *RAISED, *((record, entry(levels=0b100100, **answer)) for record, answer in pairs), UNCHANGED)
+
+
+TEN = {"number": 10}
+for good in GOOD:
+    bad = [altered(good, at, byte) for at in BLANKS[good[0]] for byte in (1, 0x80, 0xFF)]
+    with_two_raised(f"kind {good[0]} with a byte that is not 0", *((record, TEN) for record in bad))
+    with_two_raised(f"other kinds, else as kind {good[0]}", *((altered(good, 0, kind), TEN) for kind in KINDS))
+sizes = [(size, {"number": refusal(size, PORTS[0] + SCALER)}) for size in range(256)]
+with_two_raised("reads of each size", *((read(PORTS[0] + SCALER, size), answer) for size, answer in sizes))
+with_two_raised("writes of each size", *((write(PORTS[0] + SCALER, 0, size), answer) for size, answer in sizes))
+with_two_raised("offers to each port", *((offer(port, 1), {"number": 7 if port < 6 else 6}) for port in range(256)))
+
+# 4. The same through a pipe.
+case("600 records and a tail through a pipe, byte by byte", *SHORT, chunk=1)
+for chunk in (7, PIECE - 1, PIECE, PIECE + 1):
+    case(f"600 records and a tail through a pipe, {chunk} bytes at a time", *SHORT, chunk=chunk)
+    case(f"5000 records through a pipe, {chunk} bytes at a time", *LONG, chunk=chunk)
+for header, refused in ((b"APS\x00\x02", b"refused 12\n"), (b"APS\x00", b"refused 11\n"), (b"", b"refused 11\n")):
+    case(f"header {header.hex(' ')} through a pipe, byte by byte", header, refused, chunk=1)
+
+# 5. Reads and writes that fall short or are interrupted show in nothing.
+FAULTS = [
+    *({"READ_MOST": most} for most in (1, 2, 3, 15, 16, 17, 1000, PIECE - 1)),
+    *({"WRITE_MOST": most} for most in (1, 2, 4, 47, 48, 49, 1000, PIECE)),
+    *({"READ_EINTR": n} for n in (2, 3, 7)),
+    *({"WRITE_EINTR": n} for n in (2, 3, 7)),
+    {"READ_MOST": 7, "READ_EINTR": 2, "WRITE_MOST": 11, "WRITE_EINTR": 2},
+    {"READ_MOST": 4, "READ_EINTR": 3, "WRITE_MOST": 3, "WRITE_EINTR": 5},
+]
+for faults in FAULTS:
+    for name, (data, whole) in {"600 records and a tail": SHORT, "5000 records": LONG}.items():
+        case(f"{name} with {faults}", data, whole, faults=faults)
+for faults in ({"READ_MOST": 1, "READ_EINTR": 2}, {"WRITE_MOST": 1, "WRITE_EINTR": 2}, {"WRITE_MOST": 10}):
+    case(f"a header of version 2 with {faults}", b"APS\x00\x02", b"refused 12\n", faults=faults)
+    case(f"a script of 4 bytes with {faults}", b"APS\x00", b"refused 11\n", faults=faults)
+
+
+# A read that fails: only records that were read whole are logged, and no tail is made up.
+def read_fails(name, data, whole, n, most=None):
+    brought = (n - 1) * (most or PIECE)
+    known = 5 + 48 * ((brought - 5) // 16) if brought >= 5 else 0
+    faults = {"READ_EIO": n} | ({"READ_MOST": most} if most else {})
+    case(f"{name} with {faults}", data, Failure(b"standard input", whole, known, True), faults=faults)
+
+
+for n in (1, 2, 3, 10):
+    read_fails("5000 records", *LONG, n)
+for n, most in ((2, 1), (5, 1), (6, 1), (5 + 16 + 1, 1), (5 + 16 + 9, 1), (3, 3), (100, 3), (4, 4095), (300, 16), (300, 100)):
+    read_fails("5000 records", *LONG, n, most)
+for n in range(5 + 2 * 16 + 1, 5 + 2 * 16 + len(TAIL) + 2):  # from before the tail's first byte to after its last
+    walk = Walk(2)
+    read_fails("2 records and a tail", script(*walk.records, TAIL), log(*walk.entries, entry(10)), n, 1)
+for n in range(1, 6):
+    read_fails("a script of 4 bytes", b"APS\x00", b"", n, *([1] if n > 1 else []))
+
+
+# A write that fails.
+def write_fails(name, data, whole, n, most=None):
+    faults = {"WRITE_ENOSPC": n} | ({"WRITE_MOST": most} if most else {})
+    put = (n - 1) * most if most else 0 if n == 1 else len(whole) - 1
+    case(f"{name} with {faults}", data, Failure(b"standard output", whole, put, False), faults=faults)
+
+
+for n, most in ((1, None), (2, None), (3, None), (10, None), (2, 1), (6, 1), (7, 1), (54, 1), (2, 3), (1000, 48), (200, 1000)):
+    write_fails("5000 records", *LONG, n, most)
+write_fails("a header alone", script(), log(), 1)
+write_fails("a header of version 2", b"APS\x00\x02", b"refused 12\n", 1)
+write_fails("a header of version 2", b"APS\x00\x02", b"refused 12\n", 11, 1)
+
+# 6. Reads and writes that the system refuses.
+case("a directory as standard input", b"", Failure(b"standard input", b"", 0, True), stdin=FOLDER)
+FULL = Failure(b"standard output", b"", 0, False)
+case("a header with standard output /dev/full", script(), FULL, stdout="/dev/full")
+case("a header of version 2 with standard output /dev/full", b"APS\x00\x02", FULL, stdout="/dev/full")
+case("5000 records with standard output /dev/full", LONG[0], FULL, stdout="/dev/full")
+
+# 7. 01's bench examples.
+case(
+    "01: a whole file",
+    bytes.fromhex("41 50 53 00 01  01 04 00 00 80 00 03 08") + bytes(8),
+    bytes.fromhex("41 50 4C 00 01  00 00 00 00 00 00 01 44") + bytes(40),
+)
+example(
+    "01: advance 65535 and 65536 from reset",
+    (RESET, entry()),
+    (advance(65535), entry(cycles=65535)),
+    (read(PRESCALER), entry(value=0)),
+    (read(TIMER4), entry(value=0xFFFF)),
+    (RESET, entry()),
+    (advance(65536), entry(cycles=65536)),
+    (read(PRESCALER), entry(value=0xFFFF)),
+    (read(TIMER4), entry(value=0xFFFE)),
+)
+example(
+    "01: skip with the largest limit from reset",
+    (skip(LARGEST), entry(cycles=4294901760, pulses=(0, 0, 0, 1))),
+    (read(TIMER4), entry(value=0)),
+    (read(TIMER4 + 8), entry(value=0x18)),
+    (skip(LARGEST), entry(cycles=LARGEST)),
+)
+example(
+    "01: one cycle less",
+    (skip(4294901759), entry(cycles=4294901759)),
+    (read(TIMER4), entry(value=1)),
+    (read(TIMER4 + 8), entry(value=0x09)),
+    (advance(1), entry(cycles=1, pulses=(0, 0, 0, 1))),
+)
+WRITTEN = entry()
+TWO_COUNTS = (
+    (write(PRESCALER, 0), WRITTEN),
+    (write(PRESCALER_RELOAD, 3), WRITTEN),
+    (write(TIMER1, 2), WRITTEN),
+    (write(TIMER1 + 4, 2), WRITTEN),
+)
+example(
+    "01: advance 12 with prescaler 0, reload 3, timer 1 at 2; then control 0x1B",
+    *TWO_COUNTS,
+    (write(TIMER1 + 8, 0x0B), WRITTEN),
+    (advance(12), entry(cycles=12, pulses=(1, 0, 0, 0))),
+    (read(TIMER1), entry(value=1)),
+    (read(TIMER1 + 8), entry(value=0x1B)),
+    (write(TIMER1 + 8, 0x0B), WRITTEN),
+    (read(TIMER1 + 8), entry(value=0x1B)),
+    (write(TIMER1 + 8, 0x1B), WRITTEN),
+    (read(TIMER1 + 8), entry(value=0x0B)),
+)
+example(
+    "01: advance 13, as before",
+    *TWO_COUNTS,
+    (write(TIMER1 + 8, 0x0B), WRITTEN),
+    (advance(13), entry(cycles=13, pulses=(2, 0, 0, 0))),
+    (read(TIMER1), entry(value=2)),
+)
+CHAINED = (
+    *TWO_COUNTS,
+    (write(TIMER1 + 8, 0x03), WRITTEN),
+    (write(TIMER2, 3), WRITTEN),
+    (write(TIMER2 + 4, 3), WRITTEN),
+    (write(TIMER2 + 8, 0x2B), WRITTEN),
+)
+example(
+    "01: skip 100 with timer 2 chained",
+    *CHAINED,
+    (skip(100), entry(cycles=21, pulses=(0, 1, 0, 0))),
+    (read(TIMER2 + 8), entry(value=0x3B)),
+)
+example(
+    "01: skip 20 with timer 2 chained",
+    *CHAINED,
+    (skip(20), entry(cycles=20)),
+    (read(TIMER2 + 8), entry(value=0x2B)),
+    (skip(0), entry(cycles=0)),
+    (skip(1), entry(cycles=1, pulses=(0, 1, 0, 0))),
+)
+example(
+    "01: STATUS with one byte and with eight, and the ninth",
+    (write(PORTS[0] + CONTROL, 1), WRITTEN),
+    (offer(0, 0x41), entry()),
+    (read(PORTS[0] + STATUS), entry(value=0x84000087)),
+    *((offer(0, byte), entry()) for byte in b"BCDEFGH"),
+    (read(PORTS[0] + STATUS), entry(value=0xA0000087)),
+    (offer(0, 0x49), entry(number=8)),
+    *((read(PORTS[0] + DATA), entry(value=byte)) for byte in b"ABCDEFGH"),
+    (read(PORTS[0] + DATA), entry(value=0)),
+)
+example(
+    "01: a level that stays until CONTROL is written",
+    (write(PORTS[3] + CONTROL, 5), entry()),
+    (offer(3, 0x7A), entry(levels=0b001000)),
+    (read(PORTS[3] + DATA), entry(levels=0b001000, value=0x7A)),
+    (read(PORTS[3] + STATUS), entry(levels=0b001000, value=0x80000086)),
+    (write(PORTS[3] + CONTROL, 5), entry()),
+)
+example(
+    "01: the five sizes and addresses",
+    (read(0x800001FE, 4), entry(number=3)),
+    (read(0x80000101, 2), entry(number=4)),
+    (read(0x800001FF, 1), entry(number=5)),
+    (read(0x80000200, 4), entry(number=2)),
+    (read(0x80000200, 3), entry(number=1)),
+    (write(0x800001FE, 0xFFFFFFFF, 4), entry(number=3)),
+    (write(0x80000101, 0xFFFFFFFF, 2), entry(number=4)),
+    (write(0x800001FF, 0xFFFFFFFF, 1), entry(number=5)),
+    (write(0x80000200, 0xFFFFFFFF, 4), entry(number=2)),
+    (write(0x80000200, 0xFFFFFFFF, 3), entry(number=1)),
+)
+
+example(
+    "pulse counts of 64 bits: a tick in every other cycle, from the first on",
+    (write(PRESCALER, 0), WRITTEN),
+    (write(PRESCALER_RELOAD, 1), WRITTEN),
+    *((write(timer + 4, reload), WRITTEN) for timer, reload in zip(TIMERS, (1, 3, 5, 7))),
+    *((write(timer + 8, 0x0F), WRITTEN) for timer in TIMERS),
+    (advance(LARGEST), entry(cycles=LARGEST, pulses=(2**63, 2**63 // 3, 2**63 // 5, 2**63 // 7))),
+    *((read(timer), entry(value=reload - 2**63 % reload)) for timer, reload in zip(TIMERS, (1, 3, 5, 7))),
+)
+
+# Running them.
+
+Result = collections.namedtuple("Result", "out err status made")
+
+
+def place(name):
+    return os.path.join(FOLDER, name)
+
+
+def contents(name):
+    with open(place(name), "rb") as file:
+        return file.read()
+
+
+def feed(pipe, data, chunk):
+    try:
+        for at in range(0, len(data), chunk):
+            os.write(pipe, data[at:at + chunk])
+    except BrokenPipeError:
+        pass
+    finally:
+        os.close(pipe)
+
+
+def run(data, chunk=None, stdin=None, stdout=None, faults=None):
+    """Runs the program on the script: from a file, or through a pipe by `chunk` bytes, or on what `stdin` names instead. Its
+    status is None where it did not end."""
+    with open(place("script"), "wb") as file:
+        file.write(data)
+    open(place("out"), "wb").close()
+    open(place("made"), "wb").close()
+    environment = dict(os.environ)
+    if faults:
+        environment |= {name: str(number) for name, number in faults.items()}
+        environment |= {"LD_PRELOAD": place("faults.so"), "FAULTS_MADE": place("made")}
+    if chunk:
+        source, pipe = os.pipe()
+    else:
+        source = os.open(stdin or place("script"), os.O_RDONLY)
+    with open(stdout or place("out"), "wb") as out, open(place("err"), "wb") as err:
+        process = subprocess.Popen([PROGRAM], stdin=source, stdout=out, stderr=err, env=environment)
+    os.close(source)
+    if chunk:
+        threading.Thread(target=feed, args=(pipe, data, chunk), daemon=True).start()
+    watch = threading.Timer(SECONDS, process.kill)
+    watch.start()
+    status = process.wait()
+    watch.cancel()
+    made = set(contents("made").decode().split())
+    return Result(contents("out"), contents("err"), None if status == -signal.SIGKILL else status, made)
+
+
+def difference(want, got):
+    at = len(os.path.commonprefix([want, got]))
+    wanted, gotten = (f"{len(data)} bytes, from byte {at} on {data[at:at + 16].hex(' ') or 'none'}" for data in (want, got))
+    return f"{wanted}, got {gotten}"
+
+
+def complaint(want, result, faults):
+    """What is wrong with a result, or None."""
+    if result.status is None:
+        return f"expected an end, got none in {SECONDS} s"
+    if result.status < 0:
+        return f"expected an end by itself, got signal {-result.status}"
+    if result.made != set(faults or ()):
+        return f"expected these faults made, got only {sorted(result.made)}"
+    if not isinstance(want, Failure):
+        if result.out != want:
+            return f"expected {difference(want, result.out)}"
+        return f"expected nothing on standard error, got {result.err!r}" if result.err else None
+    if want.stream not in result.err:
+        return f"expected a message that names {want.stream.decode()}, got {result.err!r}"
+    if not want.log.startswith(result.out):
+        return f"expected a beginning of {difference(want.log, result.out)}"
+    if len(result.out) > want.most:
+        return f"expected at most {want.most} bytes, got {len(result.out)}"
+    if want.whole and result.out and len(result.out) % 48 != 5:
+        return f"expected whole records, got {len(result.out)} bytes"
+    return None
+
+
+passed = failed = unended = 0
+for what, data, want, how in CASES:
+    if unended == 3:
+        rest = len(CASES) - passed - failed
+        print(f"FAILED: the {rest} cases left, expected to be tried, got to none after {unended} runs without an end")
+        failed += rest
+        break
+    try:
+        result = run(data, **how)
+        wrong = complaint(want, result, how.get("faults"))
+        unended += result.status is None
+    except OSError as error:
+        wrong = f"expected a run, got {error}"
+    if wrong:
+        print(f"FAILED: {what}, {wrong}")
+        failed += 1
+    else:
+        passed += 1
+print(f"{passed} passed, {failed} failed")
+sys.exit(passed == 0 or failed != 0)
