@@ -244,6 +244,11 @@ def example(what, *pairs):
     case(what, script(*(pair[0] for pair in pairs)), log(*(pair[1] for pair in pairs)))
 
 
+def faulty(what, data, want, faults):
+    """With the faults of faults.c."""
+    case(" ".join([what, "with", *(f"{name}={number}" for name, number in faults.items())]), data, want, faults=faults)
+
+
 # 1. Headers.
 BEHIND = b"", b"\x00", read(CONFIG), 300 * read(CONFIG) + b"\x01"
 WRONG_MARKS = [altered(b"APS", at, byte) for at in range(3) for byte in (0, b"APS"[at] ^ 0x20)]
@@ -287,7 +292,6 @@ case("600 records and a tail", *SHORT)
 case("5000 records", *LONG)
 case("6144 records, which are 24 pieces", script(*even.records), log(*even.entries))
 
-
 # Each byte that must be 0, each kind, each size and each port number, in a machine with two lines raised and port 0 quiet.
 GOOD = read(PORTS[0] + CONTROL), write(PORTS[0] + CONTROL, TI), offer(4, 0), advance(1), skip(1), RESET
 KINDS = [0, *range(7, 256)]
@@ -328,10 +332,10 @@ FAULTS = [
 ]
 for faults in FAULTS:
     for name, (data, whole) in {"600 records and a tail": SHORT, "5000 records": LONG}.items():
-        case(f"{name} with {faults}", data, whole, faults=faults)
+        faulty(name, data, whole, faults)
 for faults in ({"READ_MOST": 1, "READ_EINTR": 2}, {"WRITE_MOST": 1, "WRITE_EINTR": 2}, {"WRITE_MOST": 10}):
-    case(f"a header of version 2 with {faults}", b"APS\x00\x02", b"refused 12\n", faults=faults)
-    case(f"a script of 4 bytes with {faults}", b"APS\x00", b"refused 11\n", faults=faults)
+    faulty("a header of version 2", b"APS\x00\x02", b"refused 12\n", faults)
+    faulty("a script of 4 bytes", b"APS\x00", b"refused 11\n", faults)
 
 
 # A read that fails: only records that were read whole are logged, and no tail is made up.
@@ -339,7 +343,7 @@ def read_fails(name, data, whole, n, most=None):
     brought = (n - 1) * (most or PIECE)
     known = 5 + 48 * ((brought - 5) // 16) if brought >= 5 else 0
     faults = {"READ_EIO": n} | ({"READ_MOST": most} if most else {})
-    case(f"{name} with {faults}", data, Failure(b"standard input", whole, known, True), faults=faults)
+    faulty(name, data, Failure(b"standard input", whole, known, True), faults)
 
 
 for n in (1, 2, 3, 10):
@@ -357,7 +361,7 @@ for n in range(1, 6):
 def write_fails(name, data, whole, n, most=None):
     faults = {"WRITE_ENOSPC": n} | ({"WRITE_MOST": most} if most else {})
     put = (n - 1) * most if most else 0 if n == 1 else len(whole) - 1
-    case(f"{name} with {faults}", data, Failure(b"standard output", whole, put, False), faults=faults)
+    faulty(name, data, Failure(b"standard output", whole, put, False), faults)
 
 
 for n, most in ((1, None), (2, None), (3, None), (10, None), (2, 1), (6, 1), (7, 1), (54, 1), (2, 3), (1000, 48), (200, 1000)):
