@@ -26,5 +26,7 @@ module _ (m : Machine) (input log bytes : List ℕ) (r : Ran) (c : Conforms m (p
   pub end-within : (l : List ℕ) → length log ≡ logLength → length l ≡ logLength → recordLength * r .done ≤ length l
   end-within l e f = omega (arith, piece-room input log c)
 
-  pub end-counted : (l : List ℕ) → length log ≡ logLength → length l ≡ logLength → recordLength * r .done ≡ length (take (recordLength * r .done) l)
+  pub end-counted :
+      (l : List ℕ) → length log ≡ logLength → length l ≡ logLength →
+      recordLength * r .done ≡ length (take (recordLength * r .done) l)
   end-counted l e f = counted (recordLength * r .done) l (end-within l e f)

@@ -44,8 +44,8 @@ fn main() {
     }
 }
 
-// Runs what follows the header. A proved loop has to end, and nothing says that the input does: the loop counts its turns down,
-// from a number that no run uses up. So do the two below.
+// Runs what follows the header. A proved loop has to end, and nothing says that the input does: the loop counts its turns
+// down, from a number that no run uses up. So do the two below.
 fn run() {
     let mut script = [0; PIECE];
     let mut log = [0; LOG_PIECE];

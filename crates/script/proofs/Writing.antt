@@ -14,7 +14,8 @@ wrote-none l i = rw (add-zero i) (take-append-drop i l)
 
 -- A byte is stored before the ones in front of it are.
 pub wrote-last :
-    (l vs : List ℕ) (i k x : ℕ) → length vs ≡ k → i + k < length l → wrote (set l (i + k) x) i vs ≡ wrote l i (vs ++ (x ∷ []))
+    (l vs : List ℕ) (i k x : ℕ) → length vs ≡ k → i + k < length l →
+    wrote (set l (i + k) x) i vs ≡ wrote l i (vs ++ (x ∷ []))
 unfolding wrote
 wrote-last l vs i k x e h =
     let head : take i (set l (i + k) x) ≡ take i l = take-set-le i l (i + k) x (omega arith) in
@@ -32,7 +33,8 @@ wrote-join l xs ys i j e h =
     let front : length (take i l ++ xs) ≡ i + j = rw (length-append, length-take-le i l (omega arith), e) refl in
     let behind = drop (i + j) l in
     let whole : wrote l i xs ≡ (take i l ++ xs) ++ behind = rw (e, append-assoc) refl in
-    let head : take (i + j) (wrote l i xs) ≡ take i l ++ xs = ap (take (i + j)) whole ∙ take-at (take i l ++ xs) behind (i + j) front in
+    let head : take (i + j) (wrote l i xs) ≡ take i l ++ xs =
+    ap (take (i + j)) whole ∙ take-at (take i l ++ xs) behind (i + j) front in
     let tail : drop (i + j + length ys) (wrote l i xs) ≡ drop (i + (j + length ys)) l =
     sym (drop-drop (length ys) (i + j) (wrote l i xs)) ∙
     ap (λ (r : List ℕ). drop (length ys) r) (ap (drop (i + j)) whole ∙ drop-at (take i l ++ xs) behind (i + j) front) ∙

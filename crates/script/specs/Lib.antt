@@ -1,7 +1,7 @@
--- `Theorems` is where to begin: what is claimed of the model. `Refusal`, `Number`, `Lent`, `Format`, `Script`, `Log`, `Run` and
--- `Program` are the definitions, in the words of the papers; `Cut` says how a script and the program's input are cut; `View`
--- says what of the code's types counts, and what each run promises. `Parts` has what private functions promise. `Laws` beside a
--- file follow from its definitions.
+-- `Theorems` is where to begin: what is claimed of the model. `Refusal`, `Number`, `Lent`, `Format`, `Script`, `Log`, `Run`
+-- and `Program` are the definitions, in the words of the papers; `Cut` says how a script and the program's input are cut;
+-- `View` says what of the code's types counts, and what each run promises. `Parts` has what private functions promise.
+-- `Laws` beside a file follow from its definitions.
 pub mod Theorems
 pub mod Refusal
 pub mod Number

@@ -23,7 +23,8 @@ written number records = cond (eqb number notRefused) (header log ++ records) (r
 abbrev pub logRecords : List ℕ → List ℕ
 logRecords rest = entries (answers (calls (withTail rest) rest) (resetState gr712rc))
 
--- "A tail of 1 to 15 bytes adds one log record with number 10": what it adds, on the machine that the records before it left.
+-- "A tail of 1 to 15 bytes adds one log record with number 10": what it adds, on the machine that the records before it
+-- left.
 abbrev pub tailLog : (script : List ℕ) → Machine → List ℕ
 tailLog script m = cond (eqb (length script % recordLength) 0) [] (entry (refused badRecord m))
 

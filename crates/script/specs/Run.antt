@@ -1,5 +1,5 @@
--- A run of script records, and what the program does with a piece of its input: paper 01, "Script and log", "Refusal numbers"
--- and "The slow run".
+-- A run of script records, and what the program does with a piece of its input: paper 01, "Script and log", "Refusal
+-- numbers" and "The slow run".
 pub mod Laws
 use Prim.Native.Nat.{ℕ, _+_, _/_, _%_, min}
 use mathlib.Core.Bool.{cond}

@@ -1,7 +1,7 @@
--- What is claimed of the model, for the demands on it (README.md): begin here. First the claims in which script runs take
--- part, then those on single calls, which stand in the bus (Theorems.antt there). Each claim is about any answers, machines
--- and logs that meet the contracts of the calls (`Conforms`, View.antt here and in the bus), so about what the code promises.
--- Assumes nothing.
+-- What is claimed of the model, for the demands on it (README.md): begin here. First the claims in which script runs
+-- take part, then those on single calls, which stand in the bus (Theorems.antt there). Each claim is about any answers,
+-- machines and logs that meet the contracts of the calls (`Conforms`, View.antt here and in the bus), so about what the
+-- code promises. Assumes nothing.
 use Prim.Native.Nat.{ℕ, zero, suc, _+_, _*_, _≤_, _<_, min}
 use mathlib.Core.Path.{_≡_, refl, sym, ap, _∙_}
 use mathlib.Core.Bool.{true, false}
@@ -40,15 +40,16 @@ use Rattle.script.specs.Cut.{Cut, uncut, cut, pieceLength, logLength, In
 use Rattle.script.specs.Program.{tailLog, output}
 use Rattle.script.specs.View.{Conforms}
 use Rattle.script.specs.declared.run.Ran.{Ran}
-pub use Rattle.bus.specs.Theorems.{skip-claim, well-claim, ill-claim, number-claim, refusal-claim, port-claim, table-claim, window-claim}
+pub use Rattle.bus.specs.Theorems.{skip-claim, well-claim, ill-claim, number-claim, refusal-claim}
+pub use Rattle.bus.specs.Theorems.{port-claim, table-claim, window-claim}
 
 -- What a run wrote: the log records of the records that it did.
 abbrev pub logOf : Ran → List ℕ → List ℕ
 logOf r bytes = take (recordLength * r .done) bytes
 
--- Demand 3, runs. "on such a machine a run logs the slow run's answers, in order, for the records it does, and leaves the
--- machine that the slow run leaves after them", a malformed record being a refused call. It does the smallest of the three
--- counts, and the log after them is not touched.
+-- Demand 3, runs. "on such a machine a run logs the slow run's answers, in order, for the records it does, and leaves
+-- the machine that the slow run leaves after them", a malformed record being a refused call. It does the smallest of
+-- the three counts, and the log after them is not touched.
 pub record AsSlowRun (limit : ℕ) (script log : List ℕ) (m : Machine) (r : Ran) (bytes : List ℕ) : Type 0 where
   pub accepted : r .refusal ≡ notRefused
   pub done : r .done ≡ min limit (min (whole script) (fitting log))
@@ -61,18 +62,27 @@ pub run-claim :
 unfolding run
 run-claim limit script log w c =
     let done = rw w at (c .done) in
-    record { accepted = rw w at (c .number); done = done; logs = rw done (rw w at (c .log)); leaves = rw done (rw w at (c .machine)) }
+    record {
+      accepted = rw w at (c .number);
+      done = done;
+      logs = rw done (rw w at (c .log));
+      leaves = rw done (rw w at (c .machine));
+    }
 
--- Demand 1, runs. "Refusal 9 of the whole run does 0 records": on an ill-formed machine nothing is written, and the machine
--- comes back alike in every field.
+-- Demand 1, runs. "Refusal 9 of the whole run does 0 records": on an ill-formed machine nothing is written, and the
+-- machine comes back alike in every field.
 pub run-ill-claim :
     (limit : ℕ) (script log : List ℕ) {bytes : List ℕ} {m : Machine} {r : Ran} → wellFormed (machineOf m) ≡ false →
     Conforms m (run limit script log) r bytes →
     (r .refusal ≡ illFormed) × (r .done ≡ 0) × (bytes ≡ log) × (r .machine ≡ m)
 unfolding run
 run-ill-claim limit script log {r} ill c =
-    let nine : r .refusal ≡ illFormed = rw ill at (c .number) in
-    (nine, rw ill at (c .done), rw ill at (c .log), c .same (λ z. let both : illFormed ≡ notRefused = sym nine ∙ z in absurd (omega arith)))
+    let nine : r .refusal ≡ illFormed = rw ill at (c .number) in (
+      nine,
+      rw ill at (c .done),
+      rw ill at (c .log),
+      c .same (λ z. let both : illFormed ≡ notRefused = sym nine ∙ z in absurd (omega arith)),
+    )
 
 -- A run neither makes nor repairs an ill-formed machine.
 pub run-well-claim :
@@ -110,8 +120,8 @@ runs-series :
 runs-series none = laws.none
 runs-series (next limit script log c h k rest) = laws.next (run-did limit script log c h k) (runs-series rest)
 
--- Demand 3, scripts: however a script is cut between records, and whatever the machine, ill-formed ones included, the runs of
--- its pieces yield, joined, the log of one uncut run, and the same last machine.
+-- Demand 3, scripts: however a script is cut between records, and whatever the machine, ill-formed ones included, the
+-- runs of its pieces yield, joined, the log of one uncut run, and the same last machine.
 pub pieces-claim :
     (limit : ℕ) (script log : List ℕ) {m n end : Machine} {bytes joined : List ℕ} {pieces : List (List ℕ)} {r : Ran} →
     machineOf m ≡ machineOf n → Cut script pieces → Runs m pieces joined end → Conforms n (run limit script log) r bytes →
@@ -121,8 +131,8 @@ pieces-claim limit script log e cuts runs c h k =
     let one = rw (← e) at (run-did limit script log c h k) in
     rw (one .log, one .machine, one .done) (laws.series-joined whole laws.whole-adds cuts (runs-series runs))
 
--- What the program does with pieces of its input, in order, each on the machine that the one before left, with a log buffer of
--- its length; with the logs joined and the last machine.
+-- What the program does with pieces of its input, in order, each on the machine that the one before left, with a log
+-- buffer of its length; with the logs joined and the last machine.
 pub data Pieces : Machine → List (List ℕ) → List ℕ → Machine → Type 0 where
   none : {m : Machine} → Pieces m [] [] m
   next :
@@ -150,7 +160,8 @@ cut-up (suc n) input h =
           let rest = cut-up n (drop pieceLength input) (rw length-drop (omega arith)) in (
             take pieceLength input ∷ rest .0,
             rw (take-append-drop pieceLength input) at
-                (full {piece = take pieceLength input} {rest = drop pieceLength input} (length-take-le pieceLength input (omega arith)) (rest .1)),
+                (full {piece = take pieceLength input} {rest = drop pieceLength input}
+                (length-take-le pieceLength input (omega arith)) (rest .1)),
           )
     ]
 
@@ -173,8 +184,8 @@ reset-well : (b : Board) → wellFormed (bus.resetState b) ≡ true
 unfolding bus.allWell uart.wellFormed
 reset-well b = refl
 
--- The program: what it writes is the output of its definition, whatever its input is. By its first bytes a script is refused,
--- and then it writes the refusal's line.
+-- The program: what it writes is the output of its definition, whatever its input is. By its first bytes a script is
+-- refused, and then it writes the refusal's line.
 pub refused-claim :
     (input : List ℕ) {number : ℕ} → number ≡ format.refusal format.script (take format.headerLength input) →
     (number ≡ notRefused → ⊥) → format.refusalLine number ≡ output input
@@ -211,7 +222,11 @@ one-run-claim limit script log {m} {bytes} {r} e well reads pieces c h k =
     let left : machineOf (r .machine) ≡ after (calls (whole script) script) (machineOf m) = one .machine ∙ rw done refl in
     let joins = rw well at (laws.series-joined withTail laws.tail-adds (read-claim reads) (pieces-series reads pieces)) in
     let tail = laws.tail-answered script (machineOf m) well in (
-      joins .0 ∙ tail .0 ∙ rw wrote (ap (λ (x : bus.Machine). entries (answers (calls (whole script) script) (machineOf m)) ++ tailLog script x) (sym left)),
+      joins .0 ∙ tail .0 ∙
+          rw wrote
+          (ap
+          (λ (x : bus.Machine). entries (answers (calls (whole script) script) (machineOf m)) ++ tailLog script x)
+          (sym left)),
       joins .1 ∙ tail .1 ∙ sym left,
     )
 
@@ -235,8 +250,8 @@ abbrev pub records : ℕ → List ℕ → List Seen
 records zero bytes = []
 records (suc n) bytes = logged (take recordLength bytes) ∷ records n (drop recordLength bytes)
 
--- Calls and script runs, each on the machine that the one before left: the list of all calls, script records among them, what
--- is seen of each, and the last machine.
+-- Calls and script runs, each on the machine that the one before left: the list of all calls, script records among
+-- them, what is seen of each, and the last machine.
 pub data Trace : Machine → List Call → List Seen → Machine → Type 0 where
   stop : {m : Machine} → Trace m [] [] m
   call :
@@ -281,9 +296,9 @@ did-agree k count script cs {m} {bytes} d rest =
       later .1,
     )
 
--- Demand 3, whole. "This is a single claim about the list": what is seen of its calls, script records among them, are the slow
--- run's answers, and the last machine is the slow run's; whatever the calls, refused and malformed ones included, and
--- whatever the first machine.
+-- Demand 3, whole. "This is a single claim about the list": what is seen of its calls, script records among them, are
+-- the slow run's answers, and the last machine is the slow run's; whatever the calls, refused and malformed ones
+-- included, and whatever the first machine.
 pub list-claim :
     {m end : Machine} {cs : List Call} {seen : List Seen} → Trace m cs seen end →
     Agree seen (answers cs (machineOf m)) × (machineOf end ≡ after cs (machineOf m))
@@ -301,10 +316,11 @@ list-claim (input-piece input log {m} {cs} {r} {bytes} h t) =
     (laws.runs-did n input log (machineOf m) (r .done) bytes (machineOf (r .machine)) (h .done) (h .log) (h .machine))
     (list-claim t)
 
--- Demand 3: time may be cut anywhere. Replace any advances of a list, script records among them, each by one or more spans that
--- add up to its own, put any of the calls into scripts, cut those as you like, and begin with an equal machine: what is seen
--- of the cut list are the slow run's answers to it, what is seen of the uncut list are these with the spans put together
--- (every other answer as it is, the cycles and each timer's pulses of the spans added up), and the last machine is the same.
+-- Demand 3: time may be cut anywhere. Replace any advances of a list, script records among them, each by one or more
+-- spans that add up to its own, put any of the calls into scripts, cut those as you like, and begin with an equal
+-- machine: what is seen of the cut list are the slow run's answers to it, what is seen of the uncut list are these with
+-- the spans put together (every other answer as it is, the cycles and each timer's pulses of the spans added up), and
+-- the last machine is the same.
 pub cut-claim :
     (es : List Entry) {m n end end' : Machine} {seen cutSeen : List Seen} → machineOf m ≡ machineOf n →
     Trace m (uncutCalls es) seen end → Trace n (cutCalls es) cutSeen end' →

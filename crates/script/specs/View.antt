@@ -25,9 +25,9 @@ callOf (Skip limit) = call.skip limit
 callOf Reset = call.reset
 callOf Malformed = call.malformed
 
--- The answer `r`, with the log's bytes at exit, is what a run on the machine `m` answers; `defined` is the run's definition. Its number
--- of records done is the definition's, and as many steps has the slow run. "A refusal returns the same machine": where the
--- whole run is refused, the machine comes back as `m`, in every field.
+-- The answer `r`, with the log's bytes at exit, is what a run on the machine `m` answers; `defined` is the run's
+-- definition. Its number of records done is the definition's, and as many steps has the slow run. "A refusal returns the
+-- same machine": where the whole run is refused, the machine comes back as `m`, in every field.
 pub record Conforms (m : Machine) (defined : bus.Machine → run.Ran) (r : Ran) (bytes : List ℕ) : Type 0 where
   pub number : r .refusal ≡ defined (machineOf m) .refusal
   pub done : r .done ≡ defined (machineOf m) .done

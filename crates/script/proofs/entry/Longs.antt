@@ -65,7 +65,8 @@ pub whole-entry :
     encoded 8 first ≡ access (a .refusal) (a .emitted) (a .byte) (a .levels) (a .value) →
     l′ ≡
     wrote l at
-    (longs (first ∷ a .cycles ∷ getD (a .pulses) 0 0 ∷ getD (a .pulses) 1 0 ∷ getD (a .pulses) 2 0 ∷ getD (a .pulses) 3 0 ∷ [])) →
+    (longs
+    (first ∷ a .cycles ∷ getD (a .pulses) 0 0 ∷ getD (a .pulses) 1 0 ∷ getD (a .pulses) 2 0 ∷ getD (a .pulses) 3 0 ∷ [])) →
     l′ ≡ wrote l at (entry a)
 unfolding entry
 whole-entry l l′ at first a e f = f ∙ ap (wrote l at) (rw e (simp (append-assoc, append-nil)))

@@ -32,14 +32,18 @@ use Rattle.script.proofs.Writing.{wrote-join}
 module _ (script : List ℕ) (k n : ℕ) where
   pub last-record : length script - k < n → take (length script - k) (drop k script) ≡ take n (drop k script)
   last-record l =
-      rw (take-all (length script - k) (drop k script) (rw length-drop (omega arith)), take-all n (drop k script) (rw length-drop (omega arith)))
+      rw (
+        take-all (length script - k) (drop k script) (rw length-drop (omega arith)),
+        take-all n (drop k script) (rw length-drop (omega arith)),
+      )
       refl
 
   pub whole-record : take (k + n - k) (drop k script) ≡ take n (drop k script)
   whole-record = rw add-sub-cancel-left refl
 
 -- A call by its variant.
-pub by-variant : (m : Machine) (k v : Call) (a : Answer) → k ≡ v → view.Conforms m (callOf v) a → view.Conforms m (callOf k) a
+pub by-variant :
+    (m : Machine) (k v : Call) (a : Answer) → k ≡ v → view.Conforms m (callOf v) a → view.Conforms m (callOf k) a
 by-variant m k v a e h = rw e h
 
 -- One record: what its call answered is logged.
@@ -65,7 +69,8 @@ module _
 
   pub next-record :
       logs.recordLength * i ≤ length log₀ →
-      (machineOf next ≡ after (calls (i + 1) script) m₀) × (bytes ≡ wrote log₀ 0 (entries (answers (calls (i + 1) script) m₀)))
+      (machineOf next ≡ after (calls (i + 1) script) m₀) ×
+      (bytes ≡ wrote log₀ 0 (entries (answers (calls (i + 1) script) m₀)))
   next-record fits =
       let before = entries (answers (calls i script) m₀) in
       let a = call.answer (callIn r) (machineOf m) in

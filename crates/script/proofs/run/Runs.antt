@@ -12,8 +12,10 @@ use Rattle.bus.specs.Machine as bus
 use Rattle.bus.specs.SlowRun.Laws.{length-answers}
 use Rattle.bus.specs.View.{machineOf}
 use Rattle.bus.specs.declared.machine.Machine.{Machine}
+use Rattle.script.specs.Script as scripts
 use Rattle.script.specs.Script.{calls}
 use Rattle.script.specs.Script.Laws.{length-calls}
+use Rattle.script.specs.Log as logs
 use Rattle.script.specs.Run as run
 use Rattle.script.specs.Run.Laws.{tail-starts}
 use Rattle.script.specs.View.{Conforms}
@@ -51,7 +53,8 @@ module _ (m : Machine) (b : Bool) (e : b ≡ bus.wellFormed (machineOf m)) (scri
       }
 
 -- How many records a run and a piece do.
-module _ (m : Machine) (script log bytes : List ℕ) (n k : ℕ) (r : Ran) (c : Conforms m (run.judged n script log) r bytes) where
+module _
+    (m : Machine) (script log bytes : List ℕ) (n k : ℕ) (r : Ran) (c : Conforms m (run.judged n script log) r bytes) where
   pub run-done :
       (limit : ℕ) → n ≡ min limit k → k ≡ min (run.whole script) (run.fitting log) →
       Conforms m (run.run limit script log) r bytes
@@ -64,23 +67,28 @@ module _ (m : Machine) (script log bytes : List ℕ) (n k : ℕ) (r : Ran) (c : 
   piece-done f g = let least : n ≡ min (run.withTail script) (run.fitting log) = rw (← f) g in rw least at c
 
 -- The records that are done are there, and the log has room for them.
-pub whole-given : (count limit k n m : ℕ) → count ≡ min limit k → k ≡ min (n / 16) (m / 48) → 16 * count < n + 16
-whole-given count limit k n m e f = omega (arith, div-add-mod' n 16)
+pub whole-given :
+    (count limit k n m : ℕ) → count ≡ min limit k → k ≡ min (n / scripts.recordLength) (m / logs.recordLength) →
+    scripts.recordLength * count < n + scripts.recordLength
+whole-given count limit k n m e f = omega (arith, div-add-mod' n scripts.recordLength)
 
-pub whole-fitting : (count limit k n m : ℕ) → count ≡ min limit k → k ≡ min (n / 16) (m / 48) → 48 * count ≤ m
-whole-fitting count limit k n m e f = omega (arith, div-add-mod' m 48)
+pub whole-fitting :
+    (count limit k n m : ℕ) → count ≡ min limit k → k ≡ min (n / scripts.recordLength) (m / logs.recordLength) →
+    logs.recordLength * count ≤ m
+whole-fitting count limit k n m e f = omega (arith, div-add-mod' m logs.recordLength)
 
 pub tail-given :
-    (count k n m : ℕ) → k ≡ n / 16 + cond (eqb (n % 16) 0) 0 1 → count ≡ min k (m / 48) → 16 * count < n + 16
+    (count k n m : ℕ) → k ≡ n / scripts.recordLength + cond (eqb (n % scripts.recordLength) 0) 0 1 →
+    count ≡ min k (m / logs.recordLength) → scripts.recordLength * count < n + scripts.recordLength
 tail-given count k n m e f = omega (arith, tail-starts n)
 
-pub tail-fitting : (count k m : ℕ) → count ≡ min k (m / 48) → 48 * count ≤ m
-tail-fitting count k m f = omega (arith, div-add-mod' m 48)
+pub tail-fitting : (count k m : ℕ) → count ≡ min k (m / logs.recordLength) → logs.recordLength * count ≤ m
+tail-fitting count k m f = omega (arith, div-add-mod' m logs.recordLength)
 
 -- A tail is one record more.
-module _ (n : ℕ) where
-  pub no-tail : n % 16 ≡ 0 → n / 16 ≡ n / 16 + cond (eqb (n % 16) 0) 0 1
-  no-tail e = rw (eq-eqb (n % 16) 0 e) (omega arith)
+module _ (n whole : ℕ) where
+  pub no-tail : n % scripts.recordLength ≡ 0 → whole ≡ whole + cond (eqb (n % scripts.recordLength) 0) 0 1
+  no-tail e = rw (eq-eqb (n % scripts.recordLength) 0 e) (omega arith)
 
-  pub one-tail : (n % 16 ≡ 0 → ⊥) → n / 16 + 1 ≡ n / 16 + cond (eqb (n % 16) 0) 0 1
-  one-tail e = rw (ne-eqb (n % 16) 0 e) refl
+  pub one-tail : (n % scripts.recordLength ≡ 0 → ⊥) → whole + 1 ≡ whole + cond (eqb (n % scripts.recordLength) 0) 0 1
+  one-tail e = rw (ne-eqb (n % scripts.recordLength) 0 e) refl

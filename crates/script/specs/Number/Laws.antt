@@ -3,7 +3,8 @@ use Prim.Native.Nat.{ℕ, zero, suc, _+_, _*_, _^_, _/_, _%_, _≤_, _<_}
 use mathlib.Core.Path.{_≡_, refl}
 use mathlib.Core.List.{List, [], _∷_, _++_, append-assoc, append-nil}
 use native.Mathlib.Omega.{arith}
-use native.Mathlib.Nat.{zero-add, add-zero, add-suc, div-add-mod', mul-assoc, pow-suc, div-lt-iff-lt-mul, add-mul-div-right, add-mul-mod-self-right}
+use native.Mathlib.Nat.{zero-add, add-zero, add-suc, div-add-mod', mul-assoc, pow-suc}
+use native.Mathlib.Nat.{div-lt-iff-lt-mul, add-mul-div-right, add-mul-mod-self-right}
 use lib.ListN.{length, length-append, List·getD-append}
 use lib.Seq.{getD-at}
 use Rattle.script.specs.Number.{number, encoded}
@@ -30,7 +31,9 @@ encoded-join j (suc k) m n h =
     rw (add-suc j k, front, last, encoded-join j k m (n / 256) below, append-assoc) refl
 
 -- What was encoded is read back.
-number-front : (at count : ℕ) (bytes rest : List ℕ) → at + count ≤ length bytes → number at count (bytes ++ rest) ≡ number at count bytes
+number-front :
+    (at count : ℕ) (bytes rest : List ℕ) → at + count ≤ length bytes →
+    number at count (bytes ++ rest) ≡ number at count bytes
 unfolding number
 number-front at zero bytes rest h = refl
 number-front at (suc count) bytes rest h =

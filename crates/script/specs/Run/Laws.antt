@@ -106,7 +106,9 @@ module _
       ) (ap (λ (l : List ℕ). entries (answers first m) ++ l) (later .0), later .1)
 
 -- Of whole records, and of pieces with their tail.
-adds-length : (script rest : List ℕ) → length script % scripts.recordLength ≡ 0 → length (script ++ rest) ≡ scripts.recordLength * whole script + length rest
+adds-length :
+    (script rest : List ℕ) → length script % scripts.recordLength ≡ 0 →
+    length (script ++ rest) ≡ scripts.recordLength * whole script + length rest
 adds-length script rest e = rw length-append (omega (arith, div-add-mod' (length script) scripts.recordLength))
 
 pub whole-adds :
@@ -130,7 +132,8 @@ tail-adds script rest e = (
 -- Each record of a piece, its tail too, begins in it; so the log of a piece of the program's input fits.
 pub tail-starts :
     (n : ℕ) →
-    scripts.recordLength * (n / scripts.recordLength + cond (eqb (n % scripts.recordLength) 0) 0 1) < n + scripts.recordLength
+    scripts.recordLength * (n / scripts.recordLength + cond (eqb (n % scripts.recordLength) 0) 0 1) <
+    n + scripts.recordLength
 tail-starts n =
     elim (ℕ-discrete (n % scripts.recordLength) 0) [
       | yes z ↦ rw (eq-eqb (n % scripts.recordLength) 0 z) (omega (arith, div-add-mod' n scripts.recordLength))

@@ -54,6 +54,7 @@ unfolding callIn
 tail-malformed script =
     let begun = recordLength * (length script / recordLength) in
     let left : length (drop begun script) < recordLength =
-    rw length-drop (omega (arith, div-add-mod' (length script) recordLength, mod-lt (length script) {m = recordLength} (omega arith))) in
+    rw length-drop
+    (omega (arith, div-add-mod' (length script) recordLength, mod-lt (length script) {m = recordLength} (omega arith))) in
     let short : length (take recordLength (drop begun script)) < recordLength = rw length-take (omega arith) in
     rw (lt-ltb (length (take recordLength (drop begun script))) recordLength short) refl

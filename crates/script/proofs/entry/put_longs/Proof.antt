@@ -30,4 +30,7 @@ loop-again c =
 pub put-longs-spec : {M : Type 1} → statement M
 put-longs-spec =
     tie.close
-    (tie.spec Inv-loop μ-loop (λ c. (search needs, search needs, refl, search none-written)) (λ c. search needs) (λ c. search needs) (λ c. search needs) (λ c. search needs) (λ c κs. search needs) (λ c. search needs) (λ c. search needs) loop-again (λ c. search needs) (λ c. all-longs _ _ _ (c .before .loop .i) _ (c .before .loop .inv .3) (search needs)))
+    (tie.spec Inv-loop μ-loop (λ c. (search needs, search needs, refl, search none-written)) (λ c. search needs)
+    (λ c. search needs) (λ c. search needs) (λ c. search needs) (λ c κs. search needs) (λ c. search needs)
+    (λ c. search needs) loop-again (λ c. search needs)
+    (λ c. all-longs _ _ _ (c .before .loop .i) _ (c .before .loop .inv .3) (search needs)))

@@ -6,4 +6,5 @@ use Rattle.script.proofs.record.is_blank.Tie as tie
 pub is-blank-spec : {M : Type 1} → statement M
 is-blank-spec =
     tie.close
-    (tie.spec (λ c. search cases depth 12) (λ c. search cases depth 12) (λ c. search cases depth 12) (λ c. search cases depth 12) (λ c. search cases depth 12) (λ c. search cases depth 12))
+    (tie.spec (λ c. search cases depth 12) (λ c. search cases depth 12) (λ c. search cases depth 12)
+    (λ c. search cases depth 12) (λ c. search cases depth 12) (λ c. search cases depth 12))

@@ -7,4 +7,8 @@ use Rattle.script.proofs.run.call.Tie as tie
 pub call-spec : {M : Type 1} → statement M
 call-spec =
     tie.close
-    (tie.spec (λ c. search needs) (λ c κs. search needs) (λ c. search needs) (λ c κs. search needs) (λ c. search needs) (λ c κs. search needs) (λ c. search needs) (λ c κs. search needs) (λ c. search needs) (λ c κs. search needs) (λ c. search needs) (λ c κs. search needs) (λ c. search needs) (λ c κs. search needs) (λ c. search by-variant) (λ c. search by-variant) (λ c. search by-variant) (λ c. search by-variant) (λ c. search by-variant) (λ c. search by-variant) (λ c. search by-variant))
+    (tie.spec (λ c. search needs) (λ c κs. search needs) (λ c. search needs) (λ c κs. search needs)
+    (λ c. search needs) (λ c κs. search needs) (λ c. search needs) (λ c κs. search needs) (λ c. search needs)
+    (λ c κs. search needs) (λ c. search needs) (λ c κs. search needs) (λ c. search needs) (λ c κs. search needs)
+    (λ c. search by-variant) (λ c. search by-variant) (λ c. search by-variant) (λ c. search by-variant)
+    (λ c. search by-variant) (λ c. search by-variant) (λ c. search by-variant))

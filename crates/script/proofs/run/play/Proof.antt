@@ -27,11 +27,13 @@ loop-again c =
     let read = stepped .before .before in
     let loop = read .before .before .loop in
     let next =
-    next-record _ _ _ (loop .machine) (stepped .step .result) (loop .i) (read .record-at .result .now) (loop .log) _ (loop .inv .2)
-    (loop .inv .3) (read .record-at .ensures) (stepped .step .ensures) (search needs) in
+    next-record _ _ _ (loop .machine) (stepped .step .result) (loop .i) (read .record-at .result .now) (loop .log) _
+    (loop .inv .2) (loop .inv .3) (read .record-at .ensures) (stepped .step .ensures) (search needs) in
     (search needs, search needs, next .0, next .1)
 
 pub play-spec : {M : Type 1} → statement M
 play-spec =
     tie.close
-    (tie.spec Inv-loop μ-loop (λ c. (search needs, refl, refl, search none-written)) (λ c κs. search needs) (λ c. search needs) (λ c κs. search needs) (λ c. search needs) (λ c. search needs) loop-again (λ c. search needs) (λ c. search all-played))
+    (tie.spec Inv-loop μ-loop (λ c. (search needs, refl, refl, search none-written)) (λ c κs. search needs)
+    (λ c. search needs) (λ c κs. search needs) (λ c. search needs) (λ c. search needs) loop-again
+    (λ c. search needs) (λ c. search all-played))

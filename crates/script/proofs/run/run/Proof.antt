@@ -7,4 +7,5 @@ use Rattle.script.proofs.run.run.Tie as tie
 pub run-spec : {M : Type 1} → statement M
 run-spec =
     tie.close
-    (tie.spec (λ c κs. search needs) (λ c κs. search needs) (λ c κs. (search whole-given, search whole-fitting)) (λ c. search needs) (λ c. search run-done))
+    (tie.spec (λ c κs. search needs) (λ c κs. search needs) (λ c κs. (search whole-given, search whole-fitting))
+    (λ c. search needs) (λ c. search run-done))

@@ -7,4 +7,5 @@ use Rattle.script.proofs.run.run_piece.Tie as tie
 pub run-piece-spec : {M : Type 1} → statement M
 run-piece-spec =
     tie.close
-    (tie.spec (λ c κs. search needs) (λ c κs. search needs) (λ c κs. (search tail-given, search tail-fitting)) (λ c. search needs) (λ c. search piece-done))
+    (tie.spec (λ c κs. search needs) (λ c κs. search needs) (λ c κs. (search tail-given, search tail-fitting))
+    (λ c. search needs) (λ c. search piece-done))

@@ -7,4 +7,5 @@ use Rattle.script.proofs.run.run_records.Tie as tie
 pub run-records-spec : {M : Type 1} → statement M
 run-records-spec =
     tie.close
-    (tie.spec (λ c κs. search needs) (λ c. search records-refused) (λ c κs. search needs) (λ c. search needs) (λ c. search records-done))
+    (tie.spec (λ c κs. search needs) (λ c. search records-refused) (λ c κs. search needs) (λ c. search needs)
+    (λ c. search records-done))

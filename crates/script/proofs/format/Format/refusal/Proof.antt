@@ -7,4 +7,5 @@ use Rattle.script.proofs.format.Format.refusal.Tie as tie
 pub refusal-spec : {M : Type 1} → statement M
 refusal-spec =
     tie.close
-    (tie.spec (λ c. search judging) (λ c κs. search needs) (λ c. search needs) (λ c. search judging) (λ c κs. search needs) (λ c. search needs) (λ c. search judging) (λ c. search judging))
+    (tie.spec (λ c. search judging) (λ c κs. search needs) (λ c. search needs) (λ c. search judging)
+    (λ c κs. search needs) (λ c. search needs) (λ c. search judging) (λ c. search judging))
