@@ -41,10 +41,5 @@ wrote-join l xs ys i j e h =
     drop-drop (length ys) (i + j) l ∙ ap (λ (n : ℕ). drop n l) (add-assoc i j (length ys)) in
     rw (head, tail, length-append, e, append-assoc, append-assoc) refl
 
-pub wrote-next :
-    (l a b xs ys : List ℕ) (i j : ℕ) → length xs ≡ j → i + j ≤ length l → a ≡ wrote l i xs → b ≡ wrote a (i + j) ys →
-    b ≡ wrote l i (xs ++ ys)
-wrote-next l a b xs ys i j e h f g = rw (g, f) (wrote-join l xs ys i j e h)
-
 pub none-written : (l : List ℕ) (i : ℕ) → l ≡ wrote l i []
 none-written l i = sym (wrote-none l i)
