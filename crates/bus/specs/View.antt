@@ -6,9 +6,11 @@ use Rattle.devices.specs.Refusal.{notRefused}
 use Rattle.devices.specs.Apbuart.View.{portOf}
 use Rattle.bus.specs.Board.{gr712rc}
 use Rattle.bus.specs.Machine as bus
-use Rattle.bus.specs.Call.{Call, answer}
+use Rattle.bus.specs.Call as call
 use Rattle.bus.specs.declared.machine.Machine.{Machine}
 use Rattle.bus.specs.declared.machine.Answer.{Answer}
+use Rattle.bus.specs.declared.machine.Call.{Call}
+use Rattle.bus.specs.declared.machine.Call.the-variants.{Read, Write, Offer, Advance, Skip, Reset, Malformed}
 
 -- "The build is a model of one GR712RC board"
 abbrev pub machineOf : Machine → bus.Machine
@@ -27,8 +29,18 @@ answerOf a =
       machine = machineOf (a .machine);
     }
 
+-- the call of the definitions that each of the code's is
+abbrev pub callOf : Call → call.Call
+callOf (Read address size) = call.read address size
+callOf (Write address size value) = call.write address size value
+callOf (Offer port byte) = call.offer port byte
+callOf (Advance cycles) = call.advance cycles
+callOf (Skip limit) = call.skip limit
+callOf Reset = call.reset
+callOf Malformed = call.malformed
+
 -- The answer `a` is what a call on the machine `m` answers. "A refusal returns the same machine": where the call is refused
 -- the machine comes back as `m`, in every field, and so does an ill-formed one, which "comes back alike in every field".
-pub record Conforms (m : Machine) (call : Call) (a : Answer) : Type 0 where
-  pub answer : answerOf a ≡ answer call (machineOf m)
+pub record Conforms (m : Machine) (c : call.Call) (a : Answer) : Type 0 where
+  pub answer : answerOf a ≡ call.answer c (machineOf m)
   pub same : (a .refusal ≡ notRefused → ⊥) → a .machine ≡ m

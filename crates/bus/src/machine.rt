@@ -4,7 +4,7 @@ ghost use mathlib.Core.Path.{_≡_};
 ghost use Rattle.bus.specs.Machine as bus;
 ghost use Rattle.bus.specs.Call as call;
 ghost use Rattle.bus.specs.Board.{gr712rc};
-ghost use Rattle.bus.specs.View.{machineOf, answerOf, Conforms};
+ghost use Rattle.bus.specs.View.{machineOf, answerOf, callOf, Conforms};
 ghost use Rattle.devices.specs.Apbuart.View as uart;
 use crate::board::Board;
 use crate::board::Device;
@@ -18,6 +18,18 @@ use devices::gptimer::Gptimer;
 pub struct Machine {
     pub ports: [Apbuart; Machine::PORTS],
     pub unit: Gptimer,
+}
+
+// A call on a machine.
+pub enum Call {
+    Read { address: u32, size: u8 },
+    Write { address: u32, size: u8, value: u32 },
+    Offer { port: u8, byte: u8 },
+    Advance(u64),
+    Skip(u64),
+    Reset,
+    // A script record that is malformed or cut short: a call that is always refused.
+    Malformed,
 }
 
 // What a call answers. What its kind does not produce is 0.
@@ -39,6 +51,13 @@ pub struct Answer {
 }
 
 impl Answer {
+    // The machine after the call, as a call of its own: the proof of `in_place::call` then takes no struct apart.
+    pub(crate) fn after(self) -> Machine
+        ensures { λ r. ⌜ r ≡ self .machine ⌝ }
+    {
+        self.machine
+    }
+
     // The refusal of a call on the machine, which comes back as it is.
     fn refused(refusal: u8, machine: Machine) -> Self
         ensures { λ r. ⌜ (answerOf r ≡ bus.refused refusal (machineOf machine)) × (r .machine ≡ machine) ⌝ }
@@ -220,7 +239,6 @@ impl Machine {
         }
     }
 
-    // A script record that is malformed or cut short: a call that is always refused.
     pub fn malformed(self) -> Answer
         ensures { λ r. ⌜ Conforms self call.malformed r ⌝ }
     {
@@ -228,6 +246,25 @@ impl Machine {
             return Answer::refused(refusal::ILL_FORMED, self);
         }
         Answer::refused(refusal::BAD_RECORD, self)
+    }
+
+    // Any of these calls.
+    pub fn call(self, call: Call) -> Answer
+        ensures { λ r. ⌜ Conforms self (callOf call) r ⌝ }
+    {
+        match call {
+            Call::Read { address, size } => self.read(address, size),
+            Call::Write {
+                address,
+                size,
+                value,
+            } => self.write(address, size, value),
+            Call::Offer { port, byte } => self.offer(port, byte),
+            Call::Advance(cycles) => self.advance(cycles),
+            Call::Skip(limit) => self.skip(limit),
+            Call::Reset => self.reset(),
+            Call::Malformed => self.malformed(),
+        }
     }
 
     // The refusal number of an access: 9, then 1 to 5 in that order. `found` is the window that its address lies in. The sum

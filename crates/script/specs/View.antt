@@ -7,23 +7,10 @@ use mathlib.Core.List.{List}
 use lib.ListN.{length}
 use Rattle.devices.specs.Refusal.{notRefused}
 use Rattle.bus.specs.Machine as bus
-use Rattle.bus.specs.Call as call
 use Rattle.bus.specs.View.{machineOf}
 use Rattle.bus.specs.declared.machine.Machine.{Machine}
 use Rattle.script.specs.Run as run
-use Rattle.script.specs.declared.record.Call.{Call}
-use Rattle.script.specs.declared.record.Call.the-variants.{Read, Write, Offer, Advance, Skip, Reset, Malformed}
 use Rattle.script.specs.declared.run.Ran.{Ran}
-
--- the call that a record asks for
-abbrev pub callOf : Call → call.Call
-callOf (Read address size) = call.read address size
-callOf (Write address size value) = call.write address size value
-callOf (Offer port byte) = call.offer port byte
-callOf (Advance cycles) = call.advance cycles
-callOf (Skip limit) = call.skip limit
-callOf Reset = call.reset
-callOf Malformed = call.malformed
 
 -- The answer `r`, with the log's bytes at exit, is what a run on the machine `m` answers; `defined` is the run's
 -- definition. Its number of records done is the definition's, and as many steps has the slow run. "A refusal returns the

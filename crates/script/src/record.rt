@@ -3,9 +3,10 @@ ghost use mathlib.Core.Path.{_≡_};
 ghost use mathlib.Core.List.{[], _∷_};
 ghost use Prim.Native.Nat.{_≤_};
 ghost use lib.ListN.{length};
+ghost use Rattle.bus.specs.View.{callOf};
 ghost use Rattle.script.specs.Script as script;
-ghost use Rattle.script.specs.View.{callOf};
 use crate::number::number;
+use bus::machine::Call;
 
 // A record's length.
 pub const LENGTH: usize = 16;
@@ -22,18 +23,6 @@ pub const ADVANCE: u8 = 4;
 pub const SKIP: u8 = 5;
 
 pub const RESET: u8 = 6;
-
-// What a record asks of the machine.
-pub enum Call {
-    Read { address: u32, size: u8 },
-    Write { address: u32, size: u8, value: u32 },
-    Offer { port: u8, byte: u8 },
-    Advance(u64),
-    Skip(u64),
-    Reset,
-    // The record is malformed or cut short.
-    Malformed,
-}
 
 // The numbers in a record, by their places.
 struct Fields {

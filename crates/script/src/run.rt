@@ -9,13 +9,11 @@ ghost use Rattle.bus.specs.View as bus;
 ghost use Rattle.script.specs.Script as records;
 ghost use Rattle.script.specs.Log as entries;
 ghost use Rattle.script.specs.Run as runs;
-ghost use Rattle.script.specs.View.{callOf, Conforms};
+ghost use Rattle.script.specs.View.{Conforms};
 ghost use Rattle.script.specs.Parts.{Played, Stepped};
 use crate::entry;
 use crate::record;
-use crate::record::Call;
 use crate::record::decode;
-use bus::machine::Answer;
 use bus::machine::Machine;
 use bus::refusal;
 
@@ -99,7 +97,7 @@ fn step(machine: Machine, bytes: &[u8], log: &mut [u8], at: usize) -> Machine
     requires { ⌜ at + entries.recordLength ≤ length (now log) ⌝ }
     ensures { λ r. ⌜ Stepped (answer (records.callIn (now (bytes .entry))) (bus.machineOf machine)) (now (log .entry)) at r (now (log .exit)) ⌝ }
 {
-    let answer = call(machine, decode(bytes));
+    let answer = machine.call(decode(bytes));
     entry::put(log, at, answer);
     answer.machine
 }
@@ -115,24 +113,6 @@ fn record_at(script: &[u8], i: usize) -> &[u8]
     }
     let to = from + record::LENGTH;
     &script[from..to]
-}
-
-fn call(machine: Machine, call: Call) -> Answer
-    ensures { λ r. ⌜ bus.Conforms machine (callOf call) r ⌝ }
-{
-    match call {
-        Call::Read { address, size } => machine.read(address, size),
-        Call::Write {
-            address,
-            size,
-            value,
-        } => machine.write(address, size, value),
-        Call::Offer { port, byte } => machine.offer(port, byte),
-        Call::Advance(cycles) => machine.advance(cycles),
-        Call::Skip(limit) => machine.skip(limit),
-        Call::Reset => machine.reset(),
-        Call::Malformed => machine.malformed(),
-    }
 }
 
 fn least(a: usize, b: usize) -> usize

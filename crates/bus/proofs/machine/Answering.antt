@@ -16,7 +16,7 @@ use Rattle.bus.specs.Machine as bus
 use Rattle.bus.specs.Call.{Call, offer, malformed, Subject, access, byteFor, other, refusal, subject}
 use Rattle.bus.specs.Call.{readDevice, writeDevice, reach, done}
 use Rattle.bus.specs.Call.Laws.{done-number, answer-done, answer-refused, no-port-number, offer-number, ill-number, other-number}
-use Rattle.bus.specs.View.{machineOf, answerOf, Conforms}
+use Rattle.bus.specs.View.{machineOf, answerOf, callOf, Conforms}
 use Rattle.bus.specs.declared.board.Window.{Window}
 use Rattle.bus.specs.declared.board.Device.{Device}
 use Rattle.bus.specs.declared.board.Device.the-variants as device
@@ -24,6 +24,7 @@ use Rattle.bus.specs.declared.board.Found.{Found}
 use Rattle.bus.specs.declared.board.Found.the-variants.{In, Nowhere}
 use Rattle.bus.specs.declared.machine.Machine.{Machine}
 use Rattle.bus.specs.declared.machine.Answer.{Answer}
+use Rattle.bus.specs.declared.machine.Call as machine
 
 -- An answer that was made, with the levels of the machine after it.
 pub answered-by :
@@ -160,6 +161,11 @@ module _ (m : bus.Machine) (d : Device) (offset : ℕ) (x : bus.Answer) where
       (value : ℕ) (u : Gptimer) (after : bus.Machine) → d ≡ device.TimerUnit → u ≡ gpt.write offset value (m .unit) →
       after ≡ bus.withUnit u m → x ≡ bus.accepted 0 after → x ≡ writeDevice value m d offset
   write-unit value u after e f g h = h ∙ ap (bus.accepted 0) g ∙ rw (e, ← f) refl
+
+-- A call by its variant.
+pub by-variant :
+    (m : Machine) (k v : machine.Call) (a : Answer) → k ≡ v → Conforms m (callOf v) a → Conforms m (callOf k) a
+by-variant m k v a e h = rw e h
 
 pub ruleset reaching = (reaches-window, reaches-none, read-port, read-unit, write-port, write-unit)
 

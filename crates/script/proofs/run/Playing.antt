@@ -23,9 +23,7 @@ use Rattle.script.specs.Log.{entry, entries}
 use Rattle.script.specs.Log.Laws.{entries-append}
 use Rattle.script.specs.Run.{ran}
 use Rattle.script.specs.Run.Laws.{written-length}
-use Rattle.script.specs.View.{callOf}
 use Rattle.script.specs.Parts.{Played, Stepped}
-use Rattle.script.specs.declared.record.Call.{Call}
 use Rattle.script.proofs.Writing.{wrote-join}
 
 -- The record at a place: the last one, which may be cut short, and any other.
@@ -40,11 +38,6 @@ module _ (script : List ℕ) (k n : ℕ) where
 
   pub whole-record : take (k + n - k) (drop k script) ≡ take n (drop k script)
   whole-record = rw add-sub-cancel-left refl
-
--- A call by its variant.
-pub by-variant :
-    (m : Machine) (k v : Call) (a : Answer) → k ≡ v → view.Conforms m (callOf v) a → view.Conforms m (callOf k) a
-by-variant m k v a e h = rw e h
 
 -- One record: what its call answered is logged.
 pub stepped :

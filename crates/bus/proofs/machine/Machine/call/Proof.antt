@@ -1,8 +1,8 @@
 -- Each arm is a call of the machine. Assumes nothing.
 use borrow.Author.Needs.{needs}
-use Rattle.script.proofs.run.Playing.{by-variant}
-use Rattle.script.proofs.run.call.Statement.{statement}
-use Rattle.script.proofs.run.call.Tie as tie
+use Rattle.bus.proofs.machine.Answering.{by-variant}
+use Rattle.bus.proofs.machine.Machine.call.Statement.{statement}
+use Rattle.bus.proofs.machine.Machine.call.Tie as tie
 
 pub call-spec : {M : Type 1} → statement M
 call-spec =
