@@ -8,9 +8,9 @@ use lib.Seq.{length-take-le}
 use mir.Syntax.{w64}
 use mir.Val.{Fits}
 use Rattle.bus.specs.declared.machine.Machine.{Machine}
-use Rattle.script.specs.Log.{recordLength}
+use Rattle.script.specs.Log.{entryLength}
 use Rattle.script.specs.Run.{piece}
-use Rattle.script.specs.Cut.{logLength}
+use Rattle.script.specs.Pieces.{logLength}
 use Rattle.script.specs.View.{Conforms}
 use Rattle.script.specs.View.Laws.{piece-room}
 use Rattle.script.specs.declared.run.Ran.{Ran}
@@ -20,13 +20,13 @@ counted n l h = sym (length-take-le n l h)
 
 -- What a piece logs ends in its log.
 module _ (m : Machine) (input log bytes : List ℕ) (r : Ran) (c : Conforms m (piece input log) r bytes) where
-  pub end-fits : length log ≡ logLength → Fits w64 (recordLength * r .done)
+  pub end-fits : length log ≡ logLength → Fits w64 (entryLength * r .done)
   end-fits e = record { fits = omega (arith, piece-room input log c) }
 
-  pub end-within : (l : List ℕ) → length log ≡ logLength → length l ≡ logLength → recordLength * r .done ≤ length l
+  pub end-within : (l : List ℕ) → length log ≡ logLength → length l ≡ logLength → entryLength * r .done ≤ length l
   end-within l e f = omega (arith, piece-room input log c)
 
   pub end-counted :
       (l : List ℕ) → length log ≡ logLength → length l ≡ logLength →
-      recordLength * r .done ≡ length (take (recordLength * r .done) l)
-  end-counted l e f = counted (recordLength * r .done) l (end-within l e f)
+      entryLength * r .done ≡ length (take (entryLength * r .done) l)
+  end-counted l e f = counted (entryLength * r .done) l (end-within l e f)

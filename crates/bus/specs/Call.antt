@@ -82,8 +82,11 @@ rules unreadable m = badRecord when true ∷ []
 rules other m = []
 
 -- "Order (house): 9 first; then 10". "Every call on a machine is subject to 9, reset too."
+abbrev pub table : Subject → Machine → List Rule
+table s m = illFormed when not (wellFormed m) ∷ rules s m
+
 unfoldable pub refusal : Subject → Machine → ℕ
-refusal s m = first (illFormed when not (wellFormed m) ∷ rules s m)
+refusal s m = first (table s m)
 
 abbrev pub windowOf : ℕ → Machine → Found
 windowOf address m = board.windowAt address (m .board .windows)

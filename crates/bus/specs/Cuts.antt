@@ -7,23 +7,23 @@ use Rattle.devices.specs.Gptimer.{addPulses}
 use Rattle.bus.specs.Machine.{Answer}
 use Rattle.bus.specs.Call.{Call, advance}
 
--- Each entry of such a list is a call as it is, or the spans that an advance is cut into.
-pub data Entry : Type 0 where
-  whole : Call → Entry
-  cut : (span : ℕ) (spans : List ℕ) → Entry
+-- Each item of such a list is a call as it is, or the spans that an advance is cut into.
+pub data Item : Type 0 where
+  whole : Call → Item
+  cut : (span : ℕ) (spans : List ℕ) → Item
 
 abbrev pub total : ℕ → List ℕ → ℕ
 total span [] = span
 total span (next ∷ spans) = span + total next spans
 
-abbrev pub uncutCall : Entry → Call
+abbrev pub uncutCall : Item → Call
 uncutCall (whole c) = c
 uncutCall (cut span spans) = advance (total span spans)
 
-abbrev pub uncutCalls : List Entry → List Call
+abbrev pub uncutCalls : List Item → List Call
 uncutCalls es = map uncutCall es
 
-abbrev pub cutCalls : List Entry → List Call
+abbrev pub cutCalls : List Item → List Call
 cutCalls [] = []
 cutCalls (whole c ∷ es) = c ∷ cutCalls es
 cutCalls (cut span spans ∷ es) = (advance span ∷ map advance spans) ++ cutCalls es
@@ -47,7 +47,7 @@ allJoined a [] = a
 allJoined a (b ∷ bs) = joined a (allJoined b bs)
 
 -- The answers to the cut list put together: those to the spans of an advance become one, every other stays.
-abbrev pub rejoined : List Entry → List Answer → List Answer
+abbrev pub rejoined : List Item → List Answer → List Answer
 rejoined [] rs = []
 rejoined (e ∷ es) [] = []
 rejoined (whole c ∷ es) (a ∷ rs) = a ∷ rejoined es rs

@@ -1,14 +1,13 @@
 -- Paper 01, "Bench examples": those with *, shown from the definitions in one checked table. Each line has what the
 -- definitions give and what the paper says.
-use Prim.Native.Nat.{ℕ, _+_, _-_}
+use Prim.Native.Nat.{ℕ, _+_}
 use mathlib.Core.Path.{_≡_, refl}
 use mathlib.Core.List.{List, [], _∷_, _++_, map}
-use lib.ListN.{getD}
 use Rattle.devices.specs.Apbuart as uart
 use Rattle.devices.specs.Gptimer as gpt
 use Rattle.devices.specs.Gptimer.FromReset.{largest, oneLess, skip-from-reset, skip-one-less}
 use Rattle.bus.specs.Board.{gr712rc}
-use Rattle.bus.specs.Machine.{Machine, Answer, resetState, allWell, levelsOf}
+use Rattle.bus.specs.Machine.{Machine, Answer, resetState, pulsesOf, allWell, levelsOf}
 use Rattle.bus.specs.Call.{Call, read, write, offer, advance, skip, refusal, answer}
 use Rattle.bus.specs.SlowRun.{after}
 
@@ -33,12 +32,8 @@ wordAt address calls = next (read address 4) calls .value
 abbrev store : ℕ → ℕ → Call
 store address value = write address 4 value
 
--- the pulses of timer n
-abbrev pulses : ℕ → Answer → ℕ
-pulses n a = getD (a .pulses) (n - 1) 0
-
 abbrev allPulses : Answer → ℕ
-allPulses a = pulses 1 a + pulses 2 a + pulses 3 a + pulses 4 a
+allPulses a = pulsesOf 1 a + pulsesOf 2 a + pulsesOf 3 a + pulsesOf 4 a
 
 -- "Prescaler 0, reload 3; timer 1 counter and reload 2, control 0x0B; all else as after reset."
 periodic : ℕ → List Call
@@ -62,17 +57,17 @@ examples =
     -- "From reset, skip with the largest limit passes 4294901760; timer 4 pulses once, counter 0, control 0x18. One cycle
     -- less: counter 1, control 0x09."
     next (skip largest) [] .cycles gives 4294901760 ∷
-    pulses 4 (next (skip largest) []) gives 1 ∷
+    pulsesOf 4 (next (skip largest) []) gives 1 ∷
     allPulses (next (skip largest) []) gives 1 ∷
     wordAt 0x80000340 (skip largest ∷ []) gives 0 ∷
     wordAt 0x80000348 (skip largest ∷ []) gives 0x18 ∷
     wordAt 0x80000340 (skip oneLess ∷ []) gives 1 ∷
     wordAt 0x80000348 (skip oneLess ∷ []) gives 0x09 ∷
     -- "Advance 12: one pulse, counter 1." "Advance 13: two, counter 2."
-    pulses 1 (next (advance 12) (periodic 0x0B)) gives 1 ∷
+    pulsesOf 1 (next (advance 12) (periodic 0x0B)) gives 1 ∷
     allPulses (next (advance 12) (periodic 0x0B)) gives 1 ∷
     wordAt 0x80000310 (periodic 0x0B ++ (advance 12 ∷ [])) gives 1 ∷
-    pulses 1 (next (advance 13) (periodic 0x0B)) gives 2 ∷
+    pulsesOf 1 (next (advance 13) (periodic 0x0B)) gives 2 ∷
     allPulses (next (advance 13) (periodic 0x0B)) gives 2 ∷
     wordAt 0x80000310 (periodic 0x0B ++ (advance 13 ∷ [])) gives 2 ∷
     -- "Skip 100 passes 21, timer 2 control 0x3B." "Skip 20 passes 20, no pulse."

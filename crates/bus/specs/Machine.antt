@@ -1,6 +1,6 @@
 -- The machine, and what a call on it answers: paper 01, "Refusal numbers" and, for the fields of an answer, "Script and
 -- log".
-use Prim.Native.Nat.{ℕ, _+_, _*_}
+use Prim.Native.Nat.{ℕ, _+_, _-_, _*_}
 use mathlib.Core.Bool.{Bool, false, true, cond, _&&_}
 use mathlib.Core.List.{List, [], _∷_}
 use lib.ListN.{getD, set}
@@ -62,6 +62,10 @@ pub record Answer : Type 0 where
   pub pulses : List ℕ
   pub machine : Machine
 
+-- the pulses of timer n: "the four pulse counts, timer 1 first"
+abbrev pub pulsesOf : ℕ → Answer → ℕ
+pulsesOf n a = getD (a .pulses) (n - 1) 0
+
 -- "3 the line levels after it, bit p for port p"
 unfoldable pub levelsOf : List Port → ℕ
 levelsOf [] = 0
@@ -92,13 +96,14 @@ abbrev pub refused : ℕ → Machine → Answer
 refused number m = answered number false 0 0 0 noPulses m
 
 -- "Anything else that a record's kind does not produce is 0, here and in the call's own answer." An access of the timer
--- unit, with the value that it read or 0, or a reset; an access or a byte that port n of the machine answered; and a span of
--- time that its timer unit passed:
+-- unit, with the value that it read or 0, or a reset:
 abbrev pub accepted : ℕ → Machine → Answer
 accepted value after = answered notRefused false 0 value 0 noPulses after
 
+-- an access or a byte that port n of the machine answered:
 abbrev pub ofPort : ℕ → uart.Answer → Machine → Answer
 ofPort n a m = answered notRefused (a .emitted) (a .byte) (a .value) 0 noPulses (withPort n (a .port) m)
 
+-- and a span of time that its timer unit passed:
 abbrev pub ofSpan : Elapsed → Machine → Answer
 ofSpan e m = answered notRefused false 0 0 (e .cycles) (e .pulses) (withUnit (e .unit) m)

@@ -1,28 +1,28 @@
 -- What is claimed of the calls on a machine, for the demands on the model (README.md). Most claims are about any answers and
 -- machines that meet the calls' contracts (`Conforms`, View.antt), so about what the code promises; the last ones are about
 -- the definitions. Assumes nothing.
-use Prim.Native.Nat.{ℕ, _<_, _≤_}
+use Prim.Native.Nat.{ℕ, _<_}
 use mathlib.Core.Path.{_≡_, refl, sym, ap, _∙_}
 use mathlib.Core.Bool.{true, false, _&&_}
 use mathlib.Core.List.{List, [], _∷_, map}
 use native.Mathlib.Omega.{arith}
-use lib.Dec.{leb}
+use lib.Dec.{eqb, leb}
 use lib.ListN.{length, getD}
 use Rattle.devices.specs.Refusal.{notRefused, illFormed}
 use Rattle.devices.specs.Apbuart as uart
 use Rattle.devices.specs.Apbuart.Laws.{read-accepted, write-accepted}
 use Rattle.devices.specs.Gptimer as gpt
-use Rattle.devices.specs.Gptimer.{anyPulse}
-use Rattle.devices.specs.Gptimer.Laws.{skip-least}
+use Rattle.devices.specs.Gptimer.Laws.{Least, skip-least}
 use Rattle.devices.specs.declared.gptimer.Elapsed.{Elapsed}
 use Rattle.bus.specs.Board.{gr712rc, holds, allApart, allThere}
 use Rattle.bus.specs.Board.Laws.{one-window}
 use Rattle.bus.specs.Machine as bus
 use Rattle.bus.specs.Machine.{wellFormed}
-use Rattle.bus.specs.Call.{Call, advance, skip, byteFor, refusal, windowOf, subject, answer}
+use Rattle.bus.specs.Call.{Call, skip, byteFor, table, refusal, windowOf, subject}
 use Rattle.bus.specs.Call.Laws as laws
+use Rattle.bus.specs.Call.Laws.{noneGiven}
 use Rattle.bus.specs.SlowRun.{answers, after}
-use Rattle.bus.specs.Cuts.{Entry, uncutCalls, cutCalls, rejoined}
+use Rattle.bus.specs.Cuts.{Item, uncutCalls, cutCalls, rejoined}
 use Rattle.bus.specs.Cuts.Laws.{slow-cut}
 use Rattle.bus.specs.View.{machineOf, answerOf, Conforms}
 use Rattle.bus.specs.declared.board.Window.{Window}
@@ -52,42 +52,26 @@ list-claim (step {a} h t) =
 -- and each timer's pulses in them add up to the uncut advance's. (Each span's own answer is the slow run's, by the list
 -- claim.)
 pub cut-claim :
-    (es : List Entry) {m n last last' : Machine} {rs ss : List Answer} → machineOf m ≡ machineOf n →
+    (es : List Item) {m n last last' : Machine} {rs ss : List Answer} → machineOf m ≡ machineOf n →
     Trace m (uncutCalls es) rs last → Trace n (cutCalls es) ss last' →
     (map answerOf rs ≡ rejoined es (map answerOf ss)) × (machineOf last ≡ machineOf last')
 cut-claim es {m} e t u =
     rw (list-claim t .0, list-claim u .0, list-claim t .1, list-claim u .1, ← e) (slow-cut es (machineOf m))
 
 -- "An idle skip takes a limit and passes the fewest cycles, one or more, whose last has a pulse; if there is none within
--- the limit it passes the limit." No fewer cycles have a pulse, and if fewer than the limit are passed, they have one: it
--- is in the last of them. (`advance 0` has none, so they are one or more.)
-pub record Fewest (limit : ℕ) (m : bus.Machine) (a : bus.Answer) : Type 0 where
-  pub advances : a ≡ answer (advance (a .cycles)) m
-  pub within : a .cycles ≤ limit
-  pub quiet : (k : ℕ) → k < a .cycles → anyPulse (answer (advance k) m .pulses) ≡ false
-  pub pulse : a .cycles < limit → anyPulse (answer (advance (a .cycles)) m .pulses) ≡ true
-
+-- the limit it passes the limit." It answers with a span of the timer unit of which this is true (`Least`, Gptimer/Laws.antt of
+-- the devices).
 pub skip-claim :
     {m : Machine} {limit : ℕ} {a : Answer} → wellFormed (machineOf m) ≡ true → Conforms m (skip limit) a →
-    Fewest limit (machineOf m) (answerOf a)
+    (e : Elapsed) × (answerOf a ≡ bus.ofSpan e (machineOf m)) × Least limit (m .unit) e
 skip-claim {m} {limit} w h =
-    let least = skip-least limit (m .unit) in
-    let passed = gpt.skip limit (m .unit) .cycles in
-    let spans = laws.advance-well (machineOf m) w in
-    rw (h .answer, laws.skip-well (machineOf m) w limit)
-    (record {
-      advances = ap (λ (e : Elapsed). bus.ofSpan e (machineOf m)) (least .advances) ∙ sym (spans passed);
-      within = least .within;
-      quiet = λ k l. rw (spans k) (least .quiet k l);
-      pulse = λ l. rw (spans passed) (least .pulse l);
-    })
+    (gpt.skip limit (m .unit), h .answer ∙ laws.skip-well (machineOf m) w limit, skip-least limit (m .unit))
 
--- Every call on a well-formed machine leaves a well-formed machine.
+-- A call neither makes nor repairs an ill-formed machine.
 pub well-claim :
-    {m : Machine} {c : Call} {a : Answer} → Conforms m c a → wellFormed (machineOf m) ≡ true →
-    wellFormed (machineOf (a .machine)) ≡ true
-well-claim {m} {c} h w =
-    ap (λ (x : bus.Answer). wellFormed (x .machine)) (h .answer) ∙ laws.answer-keeps c (machineOf m) ∙ w
+    {m : Machine} {c : Call} {a : Answer} → Conforms m c a →
+    wellFormed (machineOf (a .machine)) ≡ wellFormed (machineOf m)
+well-claim {m} {c} h = ap (λ (x : bus.Answer). wellFormed (x .machine)) (h .answer) ∙ laws.answer-keeps c (machineOf m)
 
 -- "Every call on a machine is subject to 9, reset too." "An ill-formed machine comes back alike in every field."
 pub ill-claim :
@@ -98,11 +82,17 @@ ill-claim {m} {c} {a} h ill =
     ap (λ (x : bus.Answer). x .refusal) (h .answer ∙ laws.ill-refused c (machineOf m) ill) in
     (nine, h .same (λ z. let both : illFormed ≡ notRefused = sym nine ∙ z in absurd (omega arith)))
 
--- Demand 2: a call is refused under the table's condition and no other. Its number is the table's.
+-- Demand 2: a call is refused under the table's condition and no other. Its number is the table's, and it is accepted exactly
+-- if no condition of the table holds.
 pub number-claim :
     {m : Machine} {c : Call} {a : Answer} → Conforms m c a →
     a .refusal ≡ refusal (subject c (machineOf m)) (machineOf m)
 number-claim {m} {c} h = ap (λ (x : bus.Answer). x .refusal) (h .answer) ∙ laws.answer-number c (machineOf m)
+
+pub accepted-claim :
+    {m : Machine} {c : Call} {a : Answer} → Conforms m c a →
+    eqb (a .refusal) notRefused ≡ noneGiven (table (subject c (machineOf m)) (machineOf m))
+accepted-claim {m} {c} h = rw (number-claim h) (laws.refusal-none (subject c (machineOf m)) (machineOf m))
 
 -- Demand 1: a refusal changes nothing. "A refusal returns the same machine, value 0, no emitted byte, 0 cycles and four pulse
 -- counts of 0", and the levels as they are.

@@ -1,9 +1,7 @@
--- What of a `Fifo` counts, the bytes that wait, oldest first, and what a push does to them.
+-- What of a `Fifo` counts: the bytes that wait, oldest first.
 use Prim.Native.Nat.{ℕ, zero, suc, _%_}
-use mathlib.Core.Bool.{cond}
-use mathlib.Core.List.{List, [], _∷_, _++_}
-use lib.ListN.{length, getD}
-use lib.Dec.{leb}
+use mathlib.Core.List.{List, [], _∷_}
+use lib.ListN.{getD}
 use Rattle.devices.specs.Apbuart.{depth}
 use Rattle.devices.specs.declared.fifo.Fifo.{Fifo}
 
@@ -14,7 +12,3 @@ ring d places head (suc count) = getD places (head % d) 0 ∷ ring d places (suc
 
 abbrev pub queued : Fifo → List ℕ
 queued f = ring depth (f .places) (f .head) (f .count)
-
--- one byte more at the end, where there is room for it; where there is none a port has refused the byte before
-abbrev pub pushed : ℕ → List ℕ → List ℕ
-pushed byte bytes = cond (leb depth (length bytes)) bytes (bytes ++ (byte ∷ []))

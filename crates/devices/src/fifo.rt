@@ -1,9 +1,10 @@
 // The receive queue of a serial port: a ring of DEPTH places, by value. Only the port calls it.
 ghost use mathlib.Core.Path.{_≡_};
-ghost use mathlib.Core.List.{[]};
+ghost use mathlib.Core.List.{[], _∷_, _++_};
+ghost use Prim.Native.Nat.{_<_};
 ghost use lib.ListN.{length};
-ghost use Rattle.devices.specs.Apbuart.{oldest, younger};
-ghost use Rattle.devices.specs.Fifo.{queued, pushed};
+ghost use Rattle.devices.specs.Apbuart.{depth, oldest, younger};
+ghost use Rattle.devices.specs.Fifo.{queued};
 
 // How many bytes can wait.
 pub const DEPTH: usize = 8;
@@ -56,13 +57,11 @@ impl Fifo {
         self
     }
 
-    // The queue with one byte more at its end; a full queue stays as it is.
+    // The queue with one byte more at its end, where it has room for it.
     pub(crate) fn push(mut self, byte: u8) -> Self
-        ensures { λ r. ⌜ queued r ≡ pushed byte (queued self) ⌝ }
+        requires { ⌜ self .count < depth ⌝ }
+        ensures { λ r. ⌜ queued r ≡ queued self ++ (byte ∷ []) ⌝ }
     {
-        if DEPTH <= self.count as usize {
-            return self;
-        }
         let at = (self.head as usize + self.count as usize) % DEPTH;
         self.places[at] = byte;
         self.count += 1;

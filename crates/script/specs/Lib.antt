@@ -1,6 +1,6 @@
 -- `Theorems` is where to begin: what is claimed of the model. `Refusal`, `Number`, `Lent`, `Format`, `Script`, `Log`, `Run`
--- and `Program` are the definitions, in the words of the papers; `Cut` says how a script and the program's input are cut;
--- `View` says what of the code's types counts, and what each run promises. `Parts` has what private functions promise.
+-- and `Program` are the definitions, in the words of the papers; `Pieces` says how a script and the program's input are cut;
+-- `View` says what of the code's types counts, and what each run promises. `Private` has what private functions promise.
 -- `Laws` beside a file follow from its definitions.
 pub mod Theorems
 pub mod Refusal
@@ -9,8 +9,8 @@ pub mod Lent
 pub mod Format
 pub mod Script
 pub mod Log
-pub mod Cut
+pub mod Pieces
 pub mod Run
 pub mod Program
 pub mod View
-pub mod Parts
+pub mod Private

@@ -48,14 +48,14 @@ abbrev pub whole : (script : List ℕ) → ℕ
 whole script = length script / scripts.recordLength
 
 abbrev pub fitting : (log : List ℕ) → ℕ
-fitting log = length log / logs.recordLength
+fitting log = length log / logs.entryLength
 
 -- "A run takes the machine, script records, a lent log and a limit in records. It does the smallest of: the limit, whole
 -- records given, whole log records that fit. A partial record at the end of what it is given is passed over".
 unfoldable pub run : (limit : ℕ) (script log : List ℕ) → Machine → Ran
 run limit script log = judged (min limit (min (whole script) (fitting log))) script log
 
--- "A tail of 1 to 15 bytes adds one log record with number 10": it is a record that is cut short.
+-- The records of a piece of the program's input: the whole ones, and a tail as one more, which is "cut short".
 abbrev pub withTail : (script : List ℕ) → ℕ
 withTail script = whole script + cond (eqb (length script % scripts.recordLength) 0) 0 1
 

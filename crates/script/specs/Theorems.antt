@@ -1,7 +1,8 @@
 -- What is claimed of the model, for the demands on it (README.md): begin here. First the claims in which script runs
--- take part, then those on single calls, which stand in the bus (Theorems.antt there). Each claim is about any answers,
+-- take part, then those on single calls, which stand in the bus (Theorems.antt there). Most claims are about any answers,
 -- machines and logs that meet the contracts of the calls (`Conforms`, View.antt here and in the bus), so about what the
--- code promises. Assumes nothing.
+-- code promises; `pieces-exist`, `read-claim` and `refused-claim`, and in the bus `port-claim` and `window-claim`, are about
+-- the definitions. Assumes nothing.
 use Prim.Native.Nat.{ℕ, zero, suc, _+_, _*_, _≤_, _<_, min}
 use mathlib.Core.Path.{_≡_, refl, sym, ap, _∙_}
 use mathlib.Core.Bool.{true, false}
@@ -19,7 +20,7 @@ use Rattle.bus.specs.Machine.{wellFormed}
 use Rattle.bus.specs.Call.{Call}
 use Rattle.bus.specs.SlowRun.{answers, after}
 use Rattle.bus.specs.SlowRun.Laws.{answers-append, after-append, length-answers, after-keeps}
-use Rattle.bus.specs.Cuts.{Entry, uncutCalls, cutCalls, rejoined}
+use Rattle.bus.specs.Cuts.{Item, uncutCalls, cutCalls, rejoined}
 use Rattle.bus.specs.Cuts.Laws.{slow-cut}
 use Rattle.bus.specs.View as view
 use Rattle.bus.specs.View.{machineOf, answerOf}
@@ -31,21 +32,22 @@ use Rattle.script.specs.Format.Laws as format-laws
 use Rattle.script.specs.Lent.{wrote}
 use Rattle.script.specs.Script.{calls}
 use Rattle.script.specs.Script.Laws.{length-calls}
-use Rattle.script.specs.Log.{recordLength, entry, entries}
+use Rattle.script.specs.Log.{entryLength, entry, entries}
 use Rattle.script.specs.Log.Laws.{first-entry}
 use Rattle.script.specs.Run.{whole, fitting, run, withTail, piece}
 use Rattle.script.specs.Run.Laws as laws
 use Rattle.script.specs.Run.Laws.{Did, Series}
-use Rattle.script.specs.Cut.{Cut, uncut, cut, pieceLength, logLength, InPieces, last, full}
+use Rattle.script.specs.Pieces.{Cut, uncut, cut, pieceLength, logLength, InPieces, last, full}
 use Rattle.script.specs.Program.{tailLog, output}
+use Rattle.script.specs.Program.Laws.{tail-answered}
 use Rattle.script.specs.View.{Conforms}
 use Rattle.script.specs.declared.run.Ran.{Ran}
-pub use Rattle.bus.specs.Theorems.{skip-claim, well-claim, ill-claim, number-claim, refusal-claim}
+pub use Rattle.bus.specs.Theorems.{skip-claim, well-claim, ill-claim, number-claim, accepted-claim, refusal-claim}
 pub use Rattle.bus.specs.Theorems.{port-claim, table-claim, window-claim}
 
 -- What a run wrote: the log records of the records that it did.
 abbrev pub logOf : Ran → List ℕ → List ℕ
-logOf r bytes = take (recordLength * r .done) bytes
+logOf r bytes = take (entryLength * r .done) bytes
 
 -- Demand 3, runs. "on such a machine a run logs the slow run's answers, in order, for the records it does, and leaves
 -- the machine that the slow run leaves after them", a malformed record being a refused call. It does the smallest of
@@ -184,6 +186,18 @@ reset-well : (b : Board) → wellFormed (bus.resetState b) ≡ true
 unfolding bus.allWell uart.wellFormed
 reset-well b = refl
 
+-- What the program logs for the pieces of its input, from a well-formed machine on.
+pieces-tail :
+    {m end : Machine} {script joined : List ℕ} {inputs : List (List ℕ)} → wellFormed (machineOf m) ≡ true →
+    InPieces script inputs → Pieces m inputs joined end →
+    (let cs = calls (whole script) script in
+    (joined ≡ entries (answers cs (machineOf m)) ++ tailLog script (after cs (machineOf m))) ×
+    (machineOf end ≡ after cs (machineOf m)))
+pieces-tail {m} {script} well reads pieces =
+    let joins = rw well at (laws.series-joined withTail laws.tail-adds (read-claim reads) (pieces-series reads pieces)) in
+    let tail = tail-answered script (machineOf m) well in
+    (joins .0 ∙ tail .0, joins .1 ∙ tail .1)
+
 -- The program: what it writes is the output of its definition, whatever its input is. By its first bytes a script is
 -- refused, and then it writes the refusal's line.
 pub refused-claim :
@@ -200,13 +214,13 @@ pub program-claim :
     machineOf m ≡ bus.resetState gr712rc → InPieces (drop format.headerLength input) inputs → Pieces m inputs joined end →
     format.header format.log ++ joined ≡ output input
 unfolding output
-program-claim input {number} {m} e accepted start reads pieces =
+program-claim input {number} e accepted start reads pieces =
     let rest = drop format.headerLength input in
-    let well : wellFormed (machineOf m) ≡ true = ap wellFormed start ∙ reset-well gr712rc in
-    let joins = rw well at (laws.series-joined withTail laws.tail-adds (read-claim reads) (pieces-series reads pieces)) in
+    let cs = calls (whole rest) rest in
     rw (← format-laws.refusal-front format.script input, ← e, eq-eqb number notRefused accepted)
     (ap (λ (l : List ℕ). format.header format.log ++ l)
-    (joins .0 ∙ ap (λ (x : bus.Machine). entries (answers (calls (withTail rest) rest) x)) start))
+    (pieces-tail (ap wellFormed start ∙ reset-well gr712rc) reads pieces .0 ∙
+    ap (λ (x : bus.Machine). entries (answers cs x) ++ tailLog rest (after cs x)) start))
 
 -- Its log records are those of one run over all that follows the header, and for a tail of 1 to 15 bytes one more, with
 -- number 10; and its last machine is that run's.
@@ -215,19 +229,16 @@ pub one-run-claim :
     machineOf m ≡ machineOf n → wellFormed (machineOf m) ≡ true → InPieces script inputs → Pieces m inputs joined end →
     Conforms n (run limit script log) r bytes → whole script ≤ limit → whole script ≤ fitting log →
     (joined ≡ logOf r bytes ++ tailLog script (machineOf (r .machine))) × (machineOf end ≡ machineOf (r .machine))
-one-run-claim limit script log {m} {bytes} {r} e well reads pieces c h k =
+one-run-claim limit script log {m} {r} e well reads pieces c h k =
     let one = rw (← e) at (run-did limit script log c h k) in
+    let cs = calls (whole script) script in
     let done : r .done ≡ whole script = rw well at (one .done) in
-    let wrote : logOf r bytes ≡ entries (answers (calls (whole script) script) (machineOf m)) = one .log ∙ rw done refl in
-    let left : machineOf (r .machine) ≡ after (calls (whole script) script) (machineOf m) = one .machine ∙ rw done refl in
-    let joins = rw well at (laws.series-joined withTail laws.tail-adds (read-claim reads) (pieces-series reads pieces)) in
-    let tail = laws.tail-answered script (machineOf m) well in (
-      joins .0 ∙ tail .0 ∙
-          rw wrote
-          (ap
-          (λ (x : bus.Machine). entries (answers (calls (whole script) script) (machineOf m)) ++ tailLog script x)
-          (sym left)),
-      joins .1 ∙ tail .1 ∙ sym left,
+    let left : machineOf (r .machine) ≡ after cs (machineOf m) = one .machine ∙ rw done refl in
+    let all = pieces-tail well reads pieces in (
+      all .0 ∙
+          rw (one .log, done)
+          (ap (λ (x : bus.Machine). entries (answers cs (machineOf m)) ++ tailLog script x) (sym left)),
+      all .1 ∙ sym left,
     )
 
 -- What is seen of a call: its answer, or the log record of a script record.
@@ -248,7 +259,7 @@ pub data Agree : List Seen → List bus.Answer → Type 0 where
 -- the first n log records
 abbrev pub records : ℕ → List ℕ → List Seen
 records zero bytes = []
-records (suc n) bytes = logged (take recordLength bytes) ∷ records n (drop recordLength bytes)
+records (suc n) bytes = logged (take entryLength bytes) ∷ records n (drop entryLength bytes)
 
 -- Calls and script runs, each on the machine that the one before left: the list of all calls, script records among
 -- them, what is seen of each, and the last machine.
@@ -267,14 +278,14 @@ pub data Trace : Machine → List Call → List Seen → Machine → Type 0 wher
       Trace m (calls (r .done) input ++ cs) (records (r .done) bytes ++ seen) end
 
 records-agree :
-    (n : ℕ) (bytes : List ℕ) (xs : List bus.Answer) → length xs ≡ n → take (recordLength * n) bytes ≡ entries xs →
+    (n : ℕ) (bytes : List ℕ) (xs : List bus.Answer) → length xs ≡ n → take (entryLength * n) bytes ≡ entries xs →
     Agree (records n bytes) xs
 records-agree zero bytes [] many e = none
 records-agree zero bytes (x ∷ xs) many e = absurd (omega arith)
 records-agree (suc n) bytes [] many e = absurd (omega arith)
 records-agree (suc n) bytes (x ∷ xs) many e =
     let split = first-entry n bytes (entries xs) x e in
-    record-of (split .0) (records-agree n (drop recordLength bytes) xs (omega arith) (split .1))
+    record-of (split .0) (records-agree n (drop entryLength bytes) xs (omega arith) (split .1))
 
 agree-append :
     {seen more : List Seen} {xs ys : List bus.Answer} → Agree seen xs → Agree more ys → Agree (seen ++ more) (xs ++ ys)
@@ -322,7 +333,7 @@ list-claim (input-piece input log {m} {cs} {r} {bytes} h t) =
 -- the spans put together (every other answer as it is, the cycles and each timer's pulses of the spans added up), and
 -- the last machine is the same.
 pub cut-claim :
-    (es : List Entry) {m n end end' : Machine} {seen cutSeen : List Seen} → machineOf m ≡ machineOf n →
+    (es : List Item) {m n end end' : Machine} {seen cutSeen : List Seen} → machineOf m ≡ machineOf n →
     Trace m (uncutCalls es) seen end → Trace n (cutCalls es) cutSeen end' →
     (let xs = answers (cutCalls es) (machineOf n) in
     Agree cutSeen xs × Agree seen (rejoined es xs) × (machineOf end ≡ machineOf end'))

@@ -6,12 +6,12 @@ ghost use lib.ListN.{length};
 ghost use Rattle.bus.specs.View.{answerOf};
 ghost use Rattle.script.specs.Log as logs;
 ghost use Rattle.script.specs.Number as big;
-ghost use Rattle.script.specs.Parts as parts;
+ghost use Rattle.script.specs.Private as private;
 ghost use Rattle.script.specs.Lent.{wrote};
 use crate::number;
 use bus::machine::Answer;
 
-// A record is six numbers of 8 bytes: an access, the cycles passed, and the pulses of each timer in them.
+// A record is six numbers of 8 bytes: the refusal number to the value read, the cycles passed, and the pulses of each timer in them.
 const LONGS: usize = 6;
 
 // A record's length.
@@ -19,11 +19,11 @@ pub const LENGTH: usize = 48;
 
 // Puts the log record of an answer into the log, from `at` on.
 pub(crate) fn put(log: &mut [u8], at: usize, answer: Answer)
-    requires { ⌜ at + logs.recordLength ≤ length (now log) ⌝ }
+    requires { ⌜ at + logs.entryLength ≤ length (now log) ⌝ }
     ensures { λ r. ⌜ now (log .exit) ≡ wrote (now (log .entry)) at (logs.entry (answerOf answer)) ⌝ }
 {
     let pulses = answer.pulses;
-    let first = access(
+    let first = first_long(
         answer.refusal,
         answer.emitted,
         answer.byte,
@@ -42,8 +42,8 @@ pub(crate) fn put(log: &mut [u8], at: usize, answer: Answer)
 }
 
 // The refusal number, the emitted byte, the line levels and the value read, as one number.
-fn access(refusal: u8, emitted: bool, byte: u8, levels: u8, value: u32) -> u64
-    ensures { λ r. ⌜ big.encoded 8 r ≡ parts.access refusal emitted byte levels value ⌝ }
+fn first_long(refusal: u8, emitted: bool, byte: u8, levels: u8, value: u32) -> u64
+    ensures { λ r. ⌜ big.encoded 8 r ≡ private.firstLong refusal emitted byte levels value ⌝ }
 {
     let bytes = ((refusal as u64 * 0x100 + flag(emitted)) * 0x100 + byte as u64) * 0x100
         + levels as u64;
@@ -59,7 +59,7 @@ fn flag(set: bool) -> u64
 
 fn put_longs(log: &mut [u8], at: usize, longs: [u64; LONGS])
     requires { ⌜ at + 8 * 6 ≤ length (now log) ⌝ }
-    ensures { λ r. ⌜ now (log .exit) ≡ wrote (now (log .entry)) at (parts.longs longs) ⌝ }
+    ensures { λ r. ⌜ now (log .exit) ≡ wrote (now (log .entry)) at (private.longs longs) ⌝ }
 {
     let mut i = 0;
     while i < LONGS {

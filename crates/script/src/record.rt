@@ -4,7 +4,7 @@ ghost use mathlib.Core.List.{[], _∷_};
 ghost use Prim.Native.Nat.{_≤_};
 ghost use lib.ListN.{length};
 ghost use Rattle.bus.specs.View.{callOf};
-ghost use Rattle.script.specs.Script as script;
+ghost use Rattle.script.specs.Script as scripts;
 use crate::number::number;
 use bus::machine::Call;
 
@@ -38,7 +38,7 @@ struct Fields {
 
 // The call of a record. Bytes behind a whole record are not looked at.
 pub fn decode(bytes: &[u8]) -> Call
-    ensures { λ r. ⌜ callOf r ≡ script.callIn (now (bytes .entry)) ⌝ }
+    ensures { λ r. ⌜ callOf r ≡ scripts.callIn (now (bytes .entry)) ⌝ }
 {
     if bytes.len() < LENGTH {
         return Call::Malformed;
@@ -48,8 +48,8 @@ pub fn decode(bytes: &[u8]) -> Call
 
 impl Fields {
     fn of(bytes: &[u8]) -> Self
-        requires { ⌜ script.recordLength ≤ length (now bytes) ⌝ }
-        ensures { λ r. ⌜ r ≡ script.fields (now (bytes .entry)) ⌝ }
+        requires { ⌜ scripts.recordLength ≤ length (now bytes) ⌝ }
+        ensures { λ r. ⌜ r ≡ scripts.fields (now (bytes .entry)) ⌝ }
     {
         Fields {
             kind: bytes[0],
@@ -64,7 +64,7 @@ impl Fields {
     }
 
     fn call(self) -> Call
-        ensures { λ r. ⌜ callOf r ≡ script.callAmong (self .kind) (script.table self) ⌝ }
+        ensures { λ r. ⌜ callOf r ≡ scripts.callAmong (self .kind) (scripts.table self) ⌝ }
     {
         if self.kind == READ {
             return self.read();
@@ -88,7 +88,7 @@ impl Fields {
     }
 
     fn read(self) -> Call
-        ensures { λ r. ⌜ callOf r ≡ script.callOn (script.readLine self) ⌝ }
+        ensures { λ r. ⌜ callOf r ≡ scripts.callOn (scripts.readLine self) ⌝ }
     {
         if is_blank(0, self.byte_2, self.byte_3, 0, self.bytes_8_15) {
             return Call::Read {
@@ -100,7 +100,7 @@ impl Fields {
     }
 
     fn write(self) -> Call
-        ensures { λ r. ⌜ callOf r ≡ script.callOn (script.writeLine self) ⌝ }
+        ensures { λ r. ⌜ callOf r ≡ scripts.callOn (scripts.writeLine self) ⌝ }
     {
         if is_blank(0, self.byte_2, self.byte_3, self.bytes_8_11, 0) {
             return Call::Write {
@@ -113,7 +113,7 @@ impl Fields {
     }
 
     fn offer(self) -> Call
-        ensures { λ r. ⌜ callOf r ≡ script.callOn (script.offerLine self) ⌝ }
+        ensures { λ r. ⌜ callOf r ≡ scripts.callOn (scripts.offerLine self) ⌝ }
     {
         if is_blank(0, 0, self.byte_3, self.bytes_4_7, self.bytes_8_15) {
             return Call::Offer {
@@ -125,7 +125,7 @@ impl Fields {
     }
 
     fn advance(self) -> Call
-        ensures { λ r. ⌜ callOf r ≡ script.callOn (script.advanceLine self) ⌝ }
+        ensures { λ r. ⌜ callOf r ≡ scripts.callOn (scripts.advanceLine self) ⌝ }
     {
         if is_blank(self.byte_1, self.byte_2, self.byte_3, self.bytes_4_7, 0) {
             return Call::Advance(self.bytes_8_15);
@@ -134,7 +134,7 @@ impl Fields {
     }
 
     fn skip(self) -> Call
-        ensures { λ r. ⌜ callOf r ≡ script.callOn (script.skipLine self) ⌝ }
+        ensures { λ r. ⌜ callOf r ≡ scripts.callOn (scripts.skipLine self) ⌝ }
     {
         if is_blank(self.byte_1, self.byte_2, self.byte_3, self.bytes_4_7, 0) {
             return Call::Skip(self.bytes_8_15);
@@ -143,7 +143,7 @@ impl Fields {
     }
 
     fn reset(self) -> Call
-        ensures { λ r. ⌜ callOf r ≡ script.callOn (script.resetLine self) ⌝ }
+        ensures { λ r. ⌜ callOf r ≡ scripts.callOn (scripts.resetLine self) ⌝ }
     {
         if is_blank(
             self.byte_1,
@@ -160,7 +160,7 @@ impl Fields {
 
 // Whether what a line of the table leaves blank is 0: bytes, a word and a long one. A caller passes 0 for what is not blank.
 fn is_blank(first: u8, second: u8, third: u8, word: u32, long: u64) -> bool
-    ensures { λ r. ⌜ r ≡ script.allZero (first ∷ second ∷ third ∷ word ∷ long ∷ []) ⌝ }
+    ensures { λ r. ⌜ r ≡ scripts.allZero (first ∷ second ∷ third ∷ word ∷ long ∷ []) ⌝ }
 {
     if first != 0 {
         return false;

@@ -6,11 +6,11 @@ ghost use lib.Dec.{eqb};
 ghost use lib.ListN.{length, take, drop};
 ghost use Rattle.bus.specs.Call.{answer};
 ghost use Rattle.bus.specs.View as bus;
-ghost use Rattle.script.specs.Script as records;
-ghost use Rattle.script.specs.Log as entries;
+ghost use Rattle.script.specs.Script as scripts;
+ghost use Rattle.script.specs.Log as logs;
 ghost use Rattle.script.specs.Run as runs;
 ghost use Rattle.script.specs.View.{Conforms};
-ghost use Rattle.script.specs.Parts.{Played, Stepped};
+ghost use Rattle.script.specs.Private.{Played, Stepped};
 use crate::entry;
 use crate::record;
 use crate::record::decode;
@@ -48,7 +48,7 @@ pub fn run_piece(machine: Machine, piece: &[u8], log: &mut [u8]) -> Ran
 
 // How many records are in so many bytes, a tail included.
 fn with_tail(length: usize) -> usize
-    ensures { λ r. ⌜ r ≡ length / records.recordLength + cond (eqb (length % records.recordLength) 0) 0 1 ⌝ }
+    ensures { λ r. ⌜ r ≡ length / scripts.recordLength + cond (eqb (length % scripts.recordLength) 0) 0 1 ⌝ }
 {
     let whole = length / record::LENGTH;
     if length % record::LENGTH == 0 {
@@ -60,8 +60,8 @@ fn with_tail(length: usize) -> usize
 
 // Runs and logs the first `count` records; the last may be cut short.
 fn run_records(machine: Machine, script: &[u8], log: &mut [u8], count: usize) -> Ran
-    requires { ⌜ records.recordLength * count < length (now script) + records.recordLength ⌝ }
-    requires { ⌜ entries.recordLength * count ≤ length (now log) ⌝ }
+    requires { ⌜ scripts.recordLength * count < length (now script) + scripts.recordLength ⌝ }
+    requires { ⌜ logs.entryLength * count ≤ length (now log) ⌝ }
     ensures { λ r. ⌜ Conforms machine (runs.judged count (now (script .entry)) (now (log .entry))) r (now (log .exit)) ⌝ }
 {
     if !machine.well_formed() {
@@ -79,8 +79,8 @@ fn run_records(machine: Machine, script: &[u8], log: &mut [u8], count: usize) ->
 }
 
 fn play(machine: Machine, script: &[u8], log: &mut [u8], count: usize) -> Machine
-    requires { ⌜ records.recordLength * count < length (now script) + records.recordLength ⌝ }
-    requires { ⌜ entries.recordLength * count ≤ length (now log) ⌝ }
+    requires { ⌜ scripts.recordLength * count < length (now script) + scripts.recordLength ⌝ }
+    requires { ⌜ logs.entryLength * count ≤ length (now log) ⌝ }
     ensures { λ r. ⌜ Played (runs.ran count (now (script .entry)) (now (log .entry)) (bus.machineOf machine)) r (now (log .exit)) ⌝ }
 {
     let mut machine = machine;
@@ -94,8 +94,8 @@ fn play(machine: Machine, script: &[u8], log: &mut [u8], count: usize) -> Machin
 
 // Does one record, and logs it from `at` on.
 fn step(machine: Machine, bytes: &[u8], log: &mut [u8], at: usize) -> Machine
-    requires { ⌜ at + entries.recordLength ≤ length (now log) ⌝ }
-    ensures { λ r. ⌜ Stepped (answer (records.callIn (now (bytes .entry))) (bus.machineOf machine)) (now (log .entry)) at r (now (log .exit)) ⌝ }
+    requires { ⌜ at + logs.entryLength ≤ length (now log) ⌝ }
+    ensures { λ r. ⌜ Stepped (answer (scripts.callIn (now (bytes .entry))) (bus.machineOf machine)) (now (log .entry)) at r (now (log .exit)) ⌝ }
 {
     let answer = machine.call(decode(bytes));
     entry::put(log, at, answer);
@@ -104,8 +104,8 @@ fn step(machine: Machine, bytes: &[u8], log: &mut [u8], at: usize) -> Machine
 
 // The record at a place; the last may be cut short.
 fn record_at(script: &[u8], i: usize) -> &[u8]
-    requires { ⌜ records.recordLength * i ≤ length (now script) ⌝ }
-    ensures { λ r. ⌜ now r ≡ take records.recordLength (drop (records.recordLength * i) (now (script .entry))) ⌝ }
+    requires { ⌜ scripts.recordLength * i ≤ length (now script) ⌝ }
+    ensures { λ r. ⌜ now r ≡ take scripts.recordLength (drop (scripts.recordLength * i) (now (script .entry))) ⌝ }
 {
     let from = record::LENGTH * i;
     if script.len() - from < record::LENGTH {

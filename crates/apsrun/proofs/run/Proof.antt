@@ -2,7 +2,7 @@
 use borrow.Author.Needs.{needs}
 use mathlib.Core.Path.{_≡_}
 use lib.ListN.{length}
-use Rattle.script.specs.Cut.{pieceLength, logLength}
+use Rattle.script.specs.Pieces.{pieceLength, logLength}
 use Rattle.apsrun.proofs.Buffers.{counted, end-fits, end-within, end-counted}
 use Rattle.apsrun.proofs.run.Statement.{statement}
 use Rattle.apsrun.proofs.run.Tie as tie

@@ -1,13 +1,13 @@
 -- What follows from the definitions of the calls, for every board. Assumes nothing.
 use Prim.Native.Nat.{ℕ, zero, suc, _-_}
 use mathlib.Core.Path.{_≡_, refl, sym, _∙_}
-use mathlib.Core.Bool.{Bool, true, false, cond, not, and-eq-true-iff}
+use mathlib.Core.Bool.{Bool, true, false, cond, not, _&&_, and-eq-true-iff}
 use mathlib.Core.List.{List, [], _∷_}
 use native.Mathlib.Decide.{decLt, ℕ-discrete}
 use native.Mathlib.Omega.{arith}
 use lib.Dec.{eqb, ltb, leb}
 use lib.ListN.{length, getD, set}
-use borrow.Author.Tests.{eq-eqb, ne-eqb, lt-ltb, le-ltb, lt-leb, le-leb}
+use borrow.Author.Tests.{eq-eqb, ne-eqb, lt-ltb, le-ltb, lt-leb, le-leb, not-true}
 use Rattle.devices.specs.Word.{bit}
 use Rattle.devices.specs.Cases.{chosen, tested}
 use Rattle.devices.specs.Refusal.{notRefused, receiverOff, queueFull, illFormed}
@@ -21,7 +21,7 @@ use Rattle.bus.specs.Refusal.{noPort}
 use Rattle.bus.specs.Machine.{Machine, portAt, withUnit, allWell, wellFormed, resetState}
 use Rattle.bus.specs.Machine.{Answer, refused, accepted, ofPort, ofSpan}
 use Rattle.bus.specs.Call as call
-use Rattle.bus.specs.Call.{Call, Subject, byteFor, other, refusal, windowOf, subject}
+use Rattle.bus.specs.Call.{Call, Rule, first, Subject, byteFor, other, table, refusal, windowOf, subject}
 use Rattle.bus.specs.Call.{readDevice, writeDevice, reach, done, answer}
 use Rattle.bus.specs.declared.board.Device.{Device}
 use Rattle.bus.specs.declared.board.Device.the-variants as device
@@ -113,6 +113,31 @@ unfolding refusal uart.offer
 offer-number n byte m w there =
     rw (w, there, well-at (m .ports) n w, room (length (portAt n m .queue)) uart.depth)
     (receive-number (bit uart.RE (portAt n m .control)) (ltb (length (portAt n m .queue)) uart.depth) (portAt n m) _ refl)
+
+-- No condition of a table holds: then, and only then, is its number 0, where no line has that number.
+abbrev pub noneGiven : List Rule → Bool
+noneGiven [] = true
+noneGiven (r ∷ rs) = not (r .given) && noneGiven rs
+
+abbrev numbered : List Rule → Bool
+numbered [] = true
+numbered (r ∷ rs) = not (eqb (r .number) notRefused) && numbered rs
+
+first-none : (rs : List Rule) → numbered rs ≡ true → eqb (first rs) notRefused ≡ noneGiven rs
+first-none [] w = refl
+first-none (r ∷ rs) w =
+    let others = and-eq-true-iff (not (eqb (r .number) notRefused)) (numbered rs) .0 w in
+    tested (r .given) (λ given. rw given (not-true _ (others .0))) (λ e. rw e (first-none rs (others .1)))
+
+table-numbered : (s : Subject) (m : Machine) → numbered (table s m) ≡ true
+table-numbered (call.access address size found) m = refl
+table-numbered (byteFor n) m = refl
+table-numbered call.unreadable m = refl
+table-numbered other m = refl
+
+pub refusal-none : (s : Subject) (m : Machine) → eqb (refusal s m) notRefused ≡ noneGiven (table s m)
+unfolding refusal
+refusal-none s m = first-none (table s m) (table-numbered s m)
 
 -- A call's number is the table's.
 pub answer-number : (c : Call) (m : Machine) → answer c m .refusal ≡ refusal (subject c m) m

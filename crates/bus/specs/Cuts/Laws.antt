@@ -12,7 +12,7 @@ use Rattle.bus.specs.Call.{advance, answer}
 use Rattle.bus.specs.Call.Laws.{advance-well, ill-refused}
 use Rattle.bus.specs.SlowRun.{answers, after}
 use Rattle.bus.specs.SlowRun.Laws.{answers-append, after-append, length-answers}
-use Rattle.bus.specs.Cuts.{Entry, whole, cut, total, uncutCalls, cutCalls}
+use Rattle.bus.specs.Cuts.{Item, whole, cut, total, uncutCalls, cutCalls}
 use Rattle.bus.specs.Cuts.{joined, allJoined, rejoined}
 
 -- An advance in two.
@@ -57,7 +57,7 @@ spans-after span (next ∷ spans) m =
 
 -- The slow run of the cut list against that of the uncut one.
 pub slow-cut :
-    (es : List Entry) (m : Machine) →
+    (es : List Item) (m : Machine) →
     (answers (uncutCalls es) m ≡ rejoined es (answers (cutCalls es) m)) ×
     (after (uncutCalls es) m ≡ after (cutCalls es) m)
 slow-cut [] m = (refl, refl)

@@ -1,14 +1,12 @@
 -- How a call conforms: by the tests that led to a return, with the answer that was made there. Assumes nothing.
-use Prim.Native.Nat.{ℕ, _≤_, _<_}
+use Prim.Native.Nat.{ℕ, _≤_}
 use mathlib.Core.Path.{_≡_, refl, ap, _∙_}
 use mathlib.Core.Bool.{Bool, true, false, cond}
 use mathlib.Core.List.{List, [], _∷_, _++_}
 use lib.ListN.{length}
-use lib.Dec.{leb}
-use borrow.Author.Tests.{lt-leb}
 use Rattle.devices.specs.Cases.{tests}
 use Rattle.devices.specs.Refusal.{notRefused}
-use Rattle.devices.specs.Fifo.{queued, pushed}
+use Rattle.devices.specs.Fifo.{queued}
 use Rattle.devices.specs.Apbuart.{Port, Answer, depth, wellFormed, refused, accepted, emitting}
 use Rattle.devices.specs.Apbuart.{withQueue, updateLevel, oldest, younger}
 use Rattle.devices.specs.Apbuart.Laws.{well-queue}
@@ -60,12 +58,9 @@ module _ (u : Apbuart) (a : code.Answer) where
   takes b q e f g = goes-on _ (rw (← f, ← g) e) refl
 
   pub joins :
-      (b n : ℕ) (p : Port) (q : List ℕ) → answerOf a ≡ accepted 0 p → p ≡ updateLevel (withQueue q (portOf u)) →
-      q ≡ pushed b (queued (u .queue)) → n ≡ length (queued (u .queue)) → n < depth →
+      (b : ℕ) (p : Port) (q : List ℕ) → answerOf a ≡ accepted 0 p → p ≡ updateLevel (withQueue q (portOf u)) →
+      q ≡ queued (u .queue) ++ (b ∷ []) →
       Conforms u (accepted 0 (updateLevel (withQueue (queued (u .queue) ++ (b ∷ [])) (portOf u)))) a
-  joins b n p q e f g h l =
-      let room : leb depth (length (queued (u .queue))) ≡ false =
-      lt-leb depth (length (queued (u .queue))) (rw (← h) l) in
-      accepts 0 0 p _ e refl (f ∙ ap (λ (l : List ℕ). updateLevel (withQueue l (portOf u))) (g ∙ rw room))
+  joins b p q e f g = accepts 0 0 p _ e refl (f ∙ ap (λ (l : List ℕ). updateLevel (withQueue l (portOf u))) g)
 
 pub ruleset conforming = (if-true, if-false, answered-true, answered-false, accepts, emits, stays, takes, joins, tests)

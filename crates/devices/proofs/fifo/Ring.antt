@@ -8,8 +8,9 @@ use native.Mathlib.Decide.{decLt}
 use native.Mathlib.Omega.{arith}
 use lib.ListN.{length, getD, set}
 use lib.Seq.{getD-set-same, getD-set-other}
-use Rattle.devices.specs.Apbuart.{oldest, younger}
-use Rattle.devices.specs.Fifo.{ring}
+use Rattle.devices.specs.Apbuart.{depth, oldest, younger}
+use Rattle.devices.specs.Fifo.{ring, queued}
+use Rattle.devices.specs.declared.fifo.Fifo.{Fifo}
 
 -- two places fewer than `d` apart are different places
 apart : (d h k : ℕ) → 0 < k → k < d → (h + k) % d ≡ h % d → ⊥
@@ -48,6 +49,10 @@ module _ (d : ℕ) (b : List ℕ) where
         getD-set-other b i (h % d) x 0 (λ e. other 0 (omega arith) (rw add-zero e)),
         ring-beside i x (suc h) n (λ j l e. other (suc j) (omega arith) (rw (add-suc, ← suc-add) e)),
       )
+
+-- room for a byte, by the bytes that wait
+pub has-room : (f : Fifo) (n : ℕ) → n ≡ length (queued f) → n < depth → f .count < depth
+has-room f n e l = rw (← ring-length depth (f .places) (f .head) (f .count), ← e) l
 
 -- a byte stored behind the last one joins the end
 pub ring-push :

@@ -9,7 +9,7 @@ use native.Mathlib.Numerals.{one-add}
 use borrow.Author.Tests.{lt-ltb, le-ltb}
 use Rattle.devices.specs.Cases.{same}
 use Rattle.devices.specs.Gptimer.{withCounter, withIp, withEn}
-use Rattle.devices.specs.Gptimer.Direct.{falls, countsLeft, atRest, stands, run}
+use Rattle.devices.specs.Gptimer.Direct.{falls, countsLeft, atRest, stands, counted}
 use Rattle.devices.specs.Gptimer.Direct.{pulsesOf, countsIn, countedTimer, servedTimer}
 use Rattle.devices.specs.Gptimer.Direct.Time.{falls-wrap}
 use Rattle.devices.specs.declared.gptimer.Timer.{Timer}
@@ -21,19 +21,19 @@ module _ (k : ℕ) (t : Timer) where
       _≡_ {A = Served} (record { underflows = underflows; pulses = pulses; timer = after }) (countedTimer k t)
 
   counts-to :
-      (n q : ℕ) (after : Timer) → q ≡ pulsesOf t n → record { underflows = n; timer = after } ≡ run k t →
+      (n q : ℕ) (after : Timer) → q ≡ pulsesOf t n → record { underflows = n; timer = after } ≡ counted k t →
       Counts n q after
   counts-to n q after e f = rw (← f, e) refl
 
   pub unmoved : t .en ≡ false → Counts 0 0 t
-  unfolding run
+  unfolding counted
   unmoved off = counts-to 0 0 t (sym (same (t .ie) 0)) (rw off refl)
 
   pub falling :
       (f w : ℕ) → t .en ≡ true → f ≡ countsLeft (t .counter) → k < f →
       (w + k) % 2 ^ 32 ≡ t .counter → w < 2 ^ 32 →
       Counts 0 0 (withCounter w t)
-  unfolding run stands
+  unfolding counted stands
   falling f w on left l wrap small =
       let before : ltb k (countsLeft (t .counter)) ≡ true = lt-ltb k _ (rw (← left) l) in
       let fell : w ≡ falls k (t .counter) = falls-wrap k (t .counter) w wrap small in
@@ -44,7 +44,7 @@ module _ (k : ℕ) (t : Timer) where
       p ≡ countsLeft (t .reload) → (w + (k - f) % p) % 2 ^ 32 ≡ t .reload → w < 2 ^ 32 →
       q ≡ pulsesOf t (1 + (k - f) / p) →
       Counts (1 + (k - f) / p) q (withIp true (withCounter w t))
-  unfolding run stands
+  unfolding counted stands
   restarting f p w q on rs left l again wrap small e =
       let past : ltb k (countsLeft (t .counter)) ≡ false = le-ltb k _ (rw (← left) l) in
       let fell : w ≡ falls ((k - f) % p) (t .reload) = falls-wrap _ (t .reload) w wrap small in
@@ -53,7 +53,7 @@ module _ (k : ℕ) (t : Timer) where
   pub stopping :
       (f q : ℕ) → t .en ≡ true → t .rs ≡ false → f ≡ countsLeft (t .counter) → f ≤ k → q ≡ pulsesOf t 1 →
       Counts 1 q (withIp true (withEn false (withCounter atRest t)))
-  unfolding run stands
+  unfolding counted stands
   stopping f q on rs left l e =
       let past : ltb k (countsLeft (t .counter)) ≡ false = le-ltb k _ (rw (← left) l) in
       counts-to 1 q _ e (rw (on, rs, past) refl)

@@ -45,28 +45,28 @@ falls zero counter = counter
 falls (suc k) counter = falls k (fall counter)
 
 -- A timer in k counts: how often it underflows, and the timer after them.
-pub record Run : Type 0 where
+pub record Counted : Type 0 where
   pub underflows : ℕ
   pub timer : Timer
 
-abbrev pub idle : Timer → Run
+abbrev pub idle : Timer → Counted
 idle t = record { underflows = 0; timer = t }
 
-abbrev pub fallen : Timer → ℕ → Run
+abbrev pub fallen : Timer → ℕ → Counted
 fallen t k = record { underflows = 0; timer = withCounter (falls k (t .counter)) t }
 
-abbrev pub restarted : Timer → ℕ → ℕ → Run
+abbrev pub restarted : Timer → ℕ → ℕ → Counted
 restarted t q k = record { underflows = suc q; timer = withIp true (withCounter (falls k (t .reload)) t) }
 
 -- where a one-shot comes to rest
 abbrev pub atRest : ℕ
 atRest = 0
 
-abbrev pub stopped : Timer → ℕ → ℕ → Run
+abbrev pub stopped : Timer → ℕ → ℕ → Counted
 stopped t q k = record { underflows = 1; timer = withIp true (withEn false (withCounter atRest t)) }
 
-unfoldable pub run : ℕ → Timer → Run
-run k t =
+unfoldable pub counted : ℕ → Timer → Counted
+counted k t =
     cond (t .en)
     (cond (t .rs)
     (stands (countsLeft (t .counter)) (countsLeft (t .reload)) (fallen t) (restarted t) k)
@@ -83,7 +83,7 @@ countsIn ticks before t = cond (t .ch) before ticks
 -- what the code answers for some counts, and for some ticks
 abbrev pub countedTimer : ℕ → Timer → Served
 countedTimer k t =
-    record { underflows = run k t .underflows; pulses = pulsesOf t (run k t .underflows); timer = run k t .timer }
+    record { underflows = counted k t .underflows; pulses = pulsesOf t (counted k t .underflows); timer = counted k t .timer }
 
 abbrev pub servedTimer : ℕ → ℕ → Timer → Served
 servedTimer ticks before t = countedTimer (countsIn ticks before t) t
@@ -91,13 +91,13 @@ servedTimer ticks before t = countedTimer (countsIn ticks before t) t
 abbrev pub served : ℕ → ℕ → List Timer → List Timer
 served ticks before [] = []
 served ticks before (t ∷ ts) =
-    run (countsIn ticks before t) t .timer ∷ served ticks (run (countsIn ticks before t) t .underflows) ts
+    counted (countsIn ticks before t) t .timer ∷ served ticks (counted (countsIn ticks before t) t .underflows) ts
 
 abbrev pub servedPulses : ℕ → ℕ → List Timer → List ℕ
 servedPulses ticks before [] = []
 servedPulses ticks before (t ∷ ts) =
-    pulsesOf t (run (countsIn ticks before t) t .underflows) ∷
-    servedPulses ticks (run (countsIn ticks before t) t .underflows) ts
+    pulsesOf t (counted (countsIn ticks before t) t .underflows) ∷
+    servedPulses ticks (counted (countsIn ticks before t) t .underflows) ts
 
 -- the prescaler in n cycles
 abbrev pub period : Gptimer → ℕ

@@ -6,7 +6,7 @@ use mathlib.Core.Bool.{Bool, true, false}
 use mathlib.Core.List.{[], _∷_}
 use native.Mathlib.Omega.{arith}
 use Rattle.devices.specs.Gptimer.{zeroTimer, resetState, skip, valueAfterTick}
-use Rattle.devices.specs.Gptimer.Direct.{elapsed, stands, endsAt, onceAt, countsLeft, run, due, dueTick}
+use Rattle.devices.specs.Gptimer.Direct.{elapsed, stands, endsAt, onceAt, countsLeft, counted, due, dueTick}
 use Rattle.devices.specs.Gptimer.Direct.Time.{falls-wrap, advance-elapsed}
 use Rattle.devices.specs.Gptimer.Direct.Due.{skip-advance}
 use Rattle.devices.specs.declared.gptimer.Elapsed.{Elapsed}
@@ -35,9 +35,9 @@ fromReset cycles scaler counter pulses en ip =
     }
 
 pub skip-from-reset : skip largest resetState ≡ fromReset 4294901760 0xFFFF 0 1 false true
-unfolding largest valueAfterTick endsAt onceAt countsLeft due dueTick elapsed stands run
+unfolding largest valueAfterTick endsAt onceAt countsLeft due dueTick elapsed stands counted
 skip-from-reset = skip-advance largest resetState refl (omega arith) ∙ advance-elapsed 4294901760 resetState
 
 pub skip-one-less : skip oneLess resetState ≡ fromReset 4294901759 0 1 0 true false
-unfolding oneLess valueAfterTick endsAt onceAt countsLeft due dueTick elapsed stands run
+unfolding oneLess valueAfterTick endsAt onceAt countsLeft due dueTick elapsed stands counted
 skip-one-less = skip-advance oneLess resetState refl (omega arith) ∙ (advance-elapsed 4294901759 resetState ∙ rw (← falls-wrap 65534 65535 1 refl (omega arith)) refl)

@@ -12,16 +12,16 @@ use Rattle.script.specs.Number.{encoded}
 use Rattle.script.specs.Number.Laws.{encoded-join, length-encoded}
 use Rattle.script.specs.Lent.{wrote}
 use Rattle.script.specs.Log.{entry}
-use Rattle.script.specs.Parts.{longs, access}
+use Rattle.script.specs.Private.{longs, firstLong}
 use Rattle.script.proofs.Writing.{wrote-join}
 
--- The access as one number.
-pub access-joined :
+-- The firstLong as one number.
+pub first-joined :
     (refusal flag byte levels value : ℕ) (emitted : Bool) → flag ≡ cond emitted 1 0 → flag ≤ 1 → byte < 256 → levels < 256 →
     value < 2 ^ 32 →
     encoded 8 ((((refusal * 256 + flag) * 256 + byte) * 256 + levels) * 4294967296 + value) ≡
-    access refusal emitted byte levels value
-access-joined refusal flag byte levels value emitted e f b l v =
+    firstLong refusal emitted byte levels value
+first-joined refusal flag byte levels value emitted e f b l v =
     rw (
       encoded-join 4 4 (((refusal * 256 + flag) * 256 + byte) * 256 + levels) value (omega arith),
       encoded-join 3 1 ((refusal * 256 + flag) * 256 + byte) levels (omega arith),
@@ -62,7 +62,7 @@ module _ (l₀ l : List ℕ) (at i : ℕ) (ns : List ℕ) (so-far : l ≡ wrote 
 -- A whole record.
 pub whole-entry :
     (l l′ : List ℕ) (at first : ℕ) (a : Answer) →
-    encoded 8 first ≡ access (a .refusal) (a .emitted) (a .byte) (a .levels) (a .value) →
+    encoded 8 first ≡ firstLong (a .refusal) (a .emitted) (a .byte) (a .levels) (a .value) →
     l′ ≡
     wrote l at
     (longs

@@ -23,7 +23,7 @@ use Rattle.script.specs.Log.{entry, entries}
 use Rattle.script.specs.Log.Laws.{entries-append}
 use Rattle.script.specs.Run.{ran}
 use Rattle.script.specs.Run.Laws.{written-length}
-use Rattle.script.specs.Parts.{Played, Stepped}
+use Rattle.script.specs.Private.{Played, Stepped}
 use Rattle.script.proofs.Writing.{wrote-join}
 
 -- The record at a place: the last one, which may be cut short, and any other.
@@ -56,12 +56,12 @@ module _
     (so-far : machineOf m ≡ after (calls i script) m₀)
     (written : log ≡ wrote log₀ 0 (entries (answers (calls i script) m₀)))
     (at-place : r ≡ take scripts.recordLength (drop (scripts.recordLength * i) script))
-    (h : Stepped (call.answer (callIn r) (machineOf m)) log (logs.recordLength * i) next bytes) where
+    (h : Stepped (call.answer (callIn r) (machineOf m)) log (logs.entryLength * i) next bytes) where
   next-calls : calls (i + 1) script ≡ calls i script ++ (callIn r ∷ [])
   next-calls = calls-add i 1 script ∙ rw at-place refl
 
   pub next-record :
-      logs.recordLength * i ≤ length log₀ →
+      logs.entryLength * i ≤ length log₀ →
       (machineOf next ≡ after (calls (i + 1) script) m₀) ×
       (bytes ≡ wrote log₀ 0 (entries (answers (calls (i + 1) script) m₀)))
   next-record fits =
@@ -77,8 +77,8 @@ module _
       ) refl in (
         h .machine ∙ rw (next-calls, after-append (calls i script) (callIn r ∷ []) m₀, ← so-far) refl,
         h .log ∙
-            rw (written, more, ← zero-add (logs.recordLength * i))
-            (wrote-join log₀ before (entry a) 0 (logs.recordLength * i) (written-length i script m₀) (rw zero-add fits)),
+            rw (written, more, ← zero-add (logs.entryLength * i))
+            (wrote-join log₀ before (entry a) 0 (logs.entryLength * i) (written-length i script m₀) (rw zero-add fits)),
       )
 
 -- All of them.

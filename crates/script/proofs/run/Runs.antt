@@ -19,7 +19,7 @@ use Rattle.script.specs.Log as logs
 use Rattle.script.specs.Run as run
 use Rattle.script.specs.Run.Laws.{tail-starts}
 use Rattle.script.specs.View.{Conforms}
-use Rattle.script.specs.Parts.{Played}
+use Rattle.script.specs.Private.{Played}
 use Rattle.script.specs.declared.run.Ran.{Ran}
 
 -- By the test for 9: records that are done, and a run that is refused.
@@ -68,22 +68,22 @@ module _
 
 -- The records that are done are there, and the log has room for them.
 pub whole-given :
-    (count limit k n m : ℕ) → count ≡ min limit k → k ≡ min (n / scripts.recordLength) (m / logs.recordLength) →
+    (count limit k n m : ℕ) → count ≡ min limit k → k ≡ min (n / scripts.recordLength) (m / logs.entryLength) →
     scripts.recordLength * count < n + scripts.recordLength
 whole-given count limit k n m e f = omega (arith, div-add-mod' n scripts.recordLength)
 
 pub whole-fitting :
-    (count limit k n m : ℕ) → count ≡ min limit k → k ≡ min (n / scripts.recordLength) (m / logs.recordLength) →
-    logs.recordLength * count ≤ m
-whole-fitting count limit k n m e f = omega (arith, div-add-mod' m logs.recordLength)
+    (count limit k n m : ℕ) → count ≡ min limit k → k ≡ min (n / scripts.recordLength) (m / logs.entryLength) →
+    logs.entryLength * count ≤ m
+whole-fitting count limit k n m e f = omega (arith, div-add-mod' m logs.entryLength)
 
 pub tail-given :
     (count k n m : ℕ) → k ≡ n / scripts.recordLength + cond (eqb (n % scripts.recordLength) 0) 0 1 →
-    count ≡ min k (m / logs.recordLength) → scripts.recordLength * count < n + scripts.recordLength
+    count ≡ min k (m / logs.entryLength) → scripts.recordLength * count < n + scripts.recordLength
 tail-given count k n m e f = omega (arith, tail-starts n)
 
-pub tail-fitting : (count k m : ℕ) → count ≡ min k (m / logs.recordLength) → logs.recordLength * count ≤ m
-tail-fitting count k m f = omega (arith, div-add-mod' m logs.recordLength)
+pub tail-fitting : (count k m : ℕ) → count ≡ min k (m / logs.entryLength) → logs.entryLength * count ≤ m
+tail-fitting count k m f = omega (arith, div-add-mod' m logs.entryLength)
 
 -- A tail is one record more.
 module _ (n whole : ℕ) where

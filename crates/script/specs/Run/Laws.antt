@@ -1,35 +1,32 @@
 -- What follows from the definitions of a run and of a piece. Assumes nothing.
 use Prim.Native.Nat.{ℕ, _+_, _*_, _/_, _%_, _≤_, _<_, min}
-use mathlib.Core.Path.{_≡_, refl, sym, ap, _∙_}
+use mathlib.Core.Path.{_≡_, refl, ap, _∙_}
 use mathlib.Core.Bool.{Bool, true, false, cond}
 use mathlib.Core.List.{List, [], _∷_, _++_, append-nil}
 use native.Mathlib.Decide.{ℕ-discrete}
 use native.Mathlib.Omega.{arith}
-use native.Mathlib.Nat.{add-zero, div-add-mod', mul-add-div, mul-add-mod-self-left}
+use native.Mathlib.Nat.{div-add-mod', mul-add-div, mul-add-mod-self-left}
 use lib.Dec.{eqb}
 use lib.ListN.{length, take, length-append}
 use lib.Seq.{take-at}
 use borrow.Author.Tests.{eq-eqb, ne-eqb}
 use Rattle.devices.specs.Cases.{tested, chosen}
-use Rattle.bus.specs.Refusal.{badRecord}
 use Rattle.bus.specs.Machine as bus
 use Rattle.bus.specs.Machine.{wellFormed}
-use Rattle.bus.specs.Call.{malformed, refusal, answer}
 use Rattle.bus.specs.SlowRun.{answers, after}
 use Rattle.bus.specs.SlowRun.Laws.{answers-append, after-append, length-answers, after-keeps}
 use Rattle.script.specs.Lent.{wrote}
 use Rattle.script.specs.Script as scripts
 use Rattle.script.specs.Script.{calls}
-use Rattle.script.specs.Script.Laws.{length-calls, calls-add, calls-append, tail-malformed}
-use Rattle.script.specs.Log.{recordLength, entry, entries}
+use Rattle.script.specs.Script.Laws.{length-calls, calls-append}
+use Rattle.script.specs.Log.{entryLength, entries}
 use Rattle.script.specs.Log.Laws.{length-entries, entries-append}
 use Rattle.script.specs.Run.{Ran, judged, whole, fitting, withTail}
-use Rattle.script.specs.Program.{tailLog}
-use Rattle.script.specs.Cut.{Cut, uncut, cut, pieceLength, logLength}
+use Rattle.script.specs.Pieces.{Cut, uncut, cut, pieceLength, logLength}
 
 -- What n records write.
 pub written-length :
-    (n : ℕ) (script : List ℕ) (m : bus.Machine) → length (entries (answers (calls n script) m)) ≡ recordLength * n
+    (n : ℕ) (script : List ℕ) (m : bus.Machine) → length (entries (answers (calls n script) m)) ≡ entryLength * n
 written-length n script m =
     rw (length-entries (answers (calls n script) m), length-answers (calls n script) m, length-calls n script) refl
 
@@ -37,7 +34,7 @@ written-length n script m =
 -- that it leaves, are the slow run's for the records that it does.
 pub record Did (n : ℕ) (script : List ℕ) (m : bus.Machine) (count : ℕ) (bytes : List ℕ) (last : bus.Machine) : Type 0 where
   pub done : count ≡ cond (wellFormed m) n 0
-  pub log : take (recordLength * count) bytes ≡ entries (answers (calls count script) m)
+  pub log : take (entryLength * count) bytes ≡ entries (answers (calls count script) m)
   pub machine : last ≡ after (calls count script) m
 
 pub runs-did :
@@ -52,7 +49,7 @@ runs-did n script log m count bytes last =
       done = rw w e;
       log =
           rw (e, f)
-          (take-at (entries (answers (calls n script) m)) _ (recordLength * n) (written-length n script m));
+          (take-at (entries (answers (calls n script) m)) _ (entryLength * n) (written-length n script m));
       machine = rw e g;
     }))
     (λ ill. rw ill (λ e f g. record { done = rw ill e; log = rw e refl; machine = rw e g }))
@@ -64,7 +61,7 @@ pub data Series (given : List ℕ → ℕ) : bus.Machine → List (List ℕ) →
   next :
       {m n last : bus.Machine} {piece bytes joined : List ℕ} {pieces : List (List ℕ)} {count : ℕ} →
       Did (given piece) piece m count bytes n → Series given n pieces joined last →
-      Series given m (piece ∷ pieces) (take (recordLength * count) bytes ++ joined) last
+      Series given m (piece ∷ pieces) (take (entryLength * count) bytes ++ joined) last
 
 -- Where the records of a script are those of its pieces, the runs over the pieces write what one run over the script
 -- writes, and leave the same machine.
@@ -89,7 +86,7 @@ module _
       (let cs = calls (cond (wellFormed m) (given script) 0) script in
       (joined ≡ entries (answers cs m)) × (last ≡ after cs m))
   series-joined uncut (next {bytes} {count} d none) =
-      rw (← d .done) (append-nil (take (recordLength * count) bytes) ∙ d .log, d .machine)
+      rw (← d .done) (append-nil (take (entryLength * count) bytes) ∙ d .log, d .machine)
   series-joined {m} (cut {piece = script} {rest} e c) (next {n} {count} d s) =
       let kept : wellFormed n ≡ wellFormed m = ap wellFormed (d .machine) ∙ after-keeps (calls count script) m in
       let later = rw kept at (series-joined c s) in
@@ -147,37 +144,7 @@ piece-fits piece log h e = rw e (omega (arith, tail-starts (length piece)))
 pub done-fits :
     (n : ℕ) (script log : List ℕ) (m : bus.Machine) (count : ℕ) →
     count ≡ judged (min n (fitting log)) script log m .done →
-    recordLength * count ≤ length log
+    entryLength * count ≤ length log
 done-fits n script log m count =
-    chosen (λ b (d : Ran). count ≡ d .done → recordLength * count ≤ length log) (wellFormed m) _ _
-    (λ e. omega (arith, div-add-mod' (length log) recordLength)) (λ e. omega arith)
-
--- A tail is answered with 10, on the machine that the records before it left.
-malformed-well : (m : bus.Machine) → wellFormed m ≡ true → answer malformed m ≡ bus.refused badRecord m
-unfolding answer refusal
-malformed-well m w = rw w refl
-
-pub tail-answered :
-    (script : List ℕ) (m : bus.Machine) → wellFormed m ≡ true →
-    (let before = calls (whole script) script in
-    (entries (answers (calls (withTail script) script) m) ≡ entries (answers before m) ++ tailLog script (after before m)) ×
-    (after (calls (withTail script) script) m ≡ after before m))
-tail-answered script m well =
-    let before = calls (whole script) script in
-    let kept : wellFormed (after before m) ≡ true = after-keeps before m ∙ well in
-    elim (ℕ-discrete (length script % scripts.recordLength) 0) [
-      | yes z ↦
-          rw (eq-eqb (length script % scripts.recordLength) 0 z, add-zero (whole script))
-          (sym (append-nil (entries (answers before m))), refl)
-      | no z ↦
-          rw (
-            ne-eqb (length script % scripts.recordLength) 0 z,
-            calls-add (whole script) 1 script,
-            tail-malformed script,
-            answers-append before (malformed ∷ []) m,
-            after-append before (malformed ∷ []) m,
-            malformed-well (after before m) kept,
-            entries-append (answers before m) (bus.refused badRecord (after before m) ∷ []),
-            append-nil (entry (bus.refused badRecord (after before m))),
-          ) (refl, ap (λ (a : bus.Answer). a .machine) (malformed-well (after before m) kept))
-    ]
+    chosen (λ b (d : Ran). count ≡ d .done → entryLength * count ≤ length log) (wellFormed m) _ _
+    (λ e. omega (arith, div-add-mod' (length log) entryLength)) (λ e. omega arith)

@@ -8,11 +8,11 @@ use native.Mathlib.Omega.{arith}
 use native.Mathlib.Numerals.{add-one}
 use native.Mathlib.Nat.{lt-of-le-of-lt, lt-of-lt-of-le}
 use lib.Dec.{leb, ltb}
-use lib.ListN.{length, getD}
+use lib.ListN.{length}
 use borrow.Author.Tests.{le-leb, lt-leb, leb-false}
 use Rattle.devices.specs.Gptimer.{place, anyPulse, advance, skip}
-use Rattle.devices.specs.Gptimer.Direct.{stands, never, endsAt, onceAt, countsLeft, Run, idle, fallen, restarted}
-use Rattle.devices.specs.Gptimer.Direct.{stopped, run, countsIn, pulsesOf, servedPulses, ticksIn, period, elapsed}
+use Rattle.devices.specs.Gptimer.Direct.{stands, never, endsAt, onceAt, countsLeft, Counted, idle, fallen, restarted}
+use Rattle.devices.specs.Gptimer.Direct.{stopped, counted, countsIn, pulsesOf, servedPulses, ticksIn, period, elapsed}
 use Rattle.devices.specs.Gptimer.Direct.{due, dueTick, pulseTick, firstTick, tickCycle}
 use Rattle.devices.specs.Gptimer.Direct.Countdown.{Due, due-through, not-due, ends-due, once-due, earlier}
 use Rattle.devices.specs.Gptimer.Direct.Countdown.{stands-map}
@@ -23,8 +23,8 @@ use Rattle.devices.specs.declared.gptimer.Timer.{Timer}
 use Rattle.devices.specs.declared.gptimer.Gptimer.{Gptimer}
 
 -- A timer's underflows in its own counts.
-pub counts-due : (k : ℕ) (t : Timer) → k < never → Due k (run k t .underflows) (λ j. due j t)
-unfolding run due
+pub counts-due : (k : ℕ) (t : Timer) → k < never → Due k (counted k t .underflows) (λ j. due j t)
+unfolding counted due
 counts-due k t small =
     by-flags (countsLeft (t .counter)) (countsLeft (t .reload)) (left-pos (t .counter)) (left-pos (t .reload))
     (t .en) (t .rs)
@@ -38,9 +38,9 @@ counts-due k t small =
         (λ j. cond en (cond rs (endsAt d p j) (onceAt d j)) never)
     by-flags d p first again false rs = not-due k small
     by-flags d p first again true true =
-        rw (stands-map (λ (r : Run). r .underflows) d p (fallen t) (restarted t) k) (ends-due k d small first p again)
+        rw (stands-map (λ (r : Counted). r .underflows) d p (fallen t) (restarted t) k) (ends-due k d small first p again)
     by-flags d p first again true false =
-        rw (stands-map (λ (r : Run). r .underflows) d 1 (fallen t) (stopped t) k) (once-due k d small first)
+        rw (stands-map (λ (r : Counted). r .underflows) d 1 (fallen t) (stopped t) k) (once-due k d small first)
 
 pub due-later : (j : ℕ) (t : Timer) → 0 < j → 0 < due j t
 due-later j t l = counts-due 0 t (omega arith) .later j l
@@ -50,7 +50,7 @@ due-later j t l = counts-due 0 t (omega arith) .later j l
 unfoldable pub underflowsFrom : ℕ → ℕ → List Timer → ℕ → ℕ
 underflowsFrom before ticks ts zero = before
 underflowsFrom before ticks ts (suc n) =
-    run (countsIn ticks (underflowsFrom before ticks ts n) (place ts n)) (place ts n) .underflows
+    counted (countsIn ticks (underflowsFrom before ticks ts n) (place ts n)) (place ts n) .underflows
 
 abbrev pub underflowsAt : ℕ → List Timer → ℕ → ℕ
 underflowsAt ticks ts n = underflowsFrom ticks ticks ts n
@@ -64,48 +64,14 @@ ticks-due ticks (suc n) ts small =
   where
     by-chain :
         (m : ℕ) (before : ℕ → ℕ) → Due ticks m before → (t : Timer) (ch : Bool) →
-        Due ticks (run (cond ch m ticks) t .underflows) (λ j. cond ch (before (due j t)) (due j t))
+        Due ticks (counted (cond ch m ticks) t .underflows) (λ j. cond ch (before (due j t)) (due j t))
     by-chain m before b t true =
         due-through before (λ j. due j t) b (counts-due m t (lt-of-le-of-lt (b .few) small))
     by-chain m before b t false = counts-due ticks t small
 
--- The ticks in some cycles, and so the underflows of timer n in them: its j-th is in cycle `tickCycle u (dueTick ts n j)`.
+-- The ticks in some cycles.
 pub prescaler-due : (k : ℕ) (u : Gptimer) → k < never → Due k (ticksIn k u) (tickCycle u)
 prescaler-due k u small = ends-due k (suc (u .scaler)) small (omega arith) (period u) (omega arith)
-
-pub underflows-due :
-    (k n : ℕ) (u : Gptimer) → k < never →
-    Due k (underflowsAt (ticksIn k u) (u .timers) n) (λ j. tickCycle u (dueTick (u .timers) n j))
-underflows-due k n u small =
-    let ticks : Due k (ticksIn k u) (tickCycle u) = prescaler-due k u small in
-    due-through (tickCycle u) (dueTick (u .timers) n) ticks
-    (ticks-due (ticksIn k u) n (u .timers) (lt-of-le-of-lt (ticks .few) small))
-
--- They are the pulses of single cycles, where the timer has IE.
-from-next :
-    (before ticks n : ℕ) (t : Timer) (ts : List Timer) →
-    underflowsFrom (run (countsIn ticks before t) t .underflows) ticks ts n ≡ underflowsFrom before ticks (t ∷ ts) (suc n)
-unfolding underflowsFrom
-from-next before ticks zero t ts = refl
-from-next before ticks (suc n) t ts =
-    ap (λ (m : ℕ). run (countsIn ticks m (place ts n)) (place ts n) .underflows) (from-next before ticks n t ts)
-
-at-place :
-    (before ticks i : ℕ) (ts : List Timer) →
-    getD (servedPulses ticks before ts) i 0 ≡ pulsesOf (place ts i) (underflowsFrom before ticks ts (suc i))
-unfolding underflowsFrom
-at-place before ticks i [] = refl
-at-place before ticks zero (t ∷ ts) = refl
-at-place before ticks (suc i) (t ∷ ts) =
-    at-place (run (countsIn ticks before t) t .underflows) ticks i ts ∙
-    ap (pulsesOf (place ts i)) (from-next before ticks (suc i) t ts)
-
-pub pulses-at :
-    (k i : ℕ) (u : Gptimer) →
-    getD (advance k u .pulses) i 0 ≡
-    pulsesOf (place (u .timers) i) (underflowsAt (ticksIn k u) (u .timers) (suc i))
-unfolding elapsed
-pulses-at k i u = rw (advance-elapsed k u) (at-place (ticksIn k u) (ticksIn k u) i (u .timers))
 
 -- The first pulse of the timer at place n, and of all four.
 pulse-due :

@@ -13,7 +13,7 @@ use Rattle.devices.specs.Cases.{chosen, same}
 use Rattle.devices.specs.Gptimer.{fall, countUnderflows, count, countsNow, underflowsNow, serve, servePulses}
 use Rattle.devices.specs.Gptimer.{withCounter, withEn, withIp, noPulses, addPulses, valueAfterTick}
 use Rattle.devices.specs.Gptimer.{cycle, cyclePulses, cycleThen, advance}
-use Rattle.devices.specs.Gptimer.Direct.{ends, countsLeft, falls, atRest, Run, idle, fallen, restarted, stopped, run}
+use Rattle.devices.specs.Gptimer.Direct.{ends, countsLeft, falls, atRest, Counted, idle, fallen, restarted, stopped, counted}
 use Rattle.devices.specs.Gptimer.Direct.{countsIn, served, servedPulses, period, elapsed}
 use Rattle.devices.specs.Gptimer.Direct.Countdown.{stands-none, stands-fall, stands-again, stands-past, stands-map}
 use Rattle.devices.specs.declared.gptimer.Timer.{Timer}
@@ -76,24 +76,24 @@ falls-wrap (suc k) c w e l =
 abbrev enabled : ℕ → ℕ → Bool → Bool → Bool → Bool → Timer
 enabled c l rs ie ip ch = record { counter = c; reload = l; en = true; rs = rs; ie = ie; ip = ip; ch = ch }
 
-abbrev oneMore : Bool → Run → Run
+abbrev oneMore : Bool → Counted → Counted
 oneMore u r = record { underflows = more u (r .underflows); timer = r .timer }
 
-run-suc :
+counted-suc :
     (k c l : ℕ) (rs ie ip ch u : Bool) → countUnderflows (enabled c l rs ie ip ch) ≡ u →
-    run (suc k) (enabled c l rs ie ip ch) ≡ oneMore u (run k (count (enabled c l rs ie ip ch)))
-unfolding run count falls
-run-suc k c l true ie ip ch true e =
+    counted (suc k) (enabled c l rs ie ip ch) ≡ oneMore u (counted k (count (enabled c l rs ie ip ch)))
+unfolding counted count falls
+counted-suc k c l true ie ip ch true e =
     let t : Timer = enabled c l true ie ip ch in
     rw (left-last t e, e, stands-again (countsLeft l) (fallen t) (restarted t) k (left-pos l))
     (sym (stands-map (oneMore true) (countsLeft l) (countsLeft l) _ _ k))
-run-suc k c l false ie ip ch true e =
+counted-suc k c l false ie ip ch true e =
     let t : Timer = enabled c l false ie ip ch in
     rw (left-last t e, e, stands-past 1 1 (fallen t) (stopped t) (suc k) (omega arith), rests t e) refl
-run-suc k c l true ie ip ch false e =
+counted-suc k c l true ie ip ch false e =
     let t : Timer = enabled c l true ie ip ch in
     rw (e, left-falls t e) (stands-fall (countsLeft (fall c)) (countsLeft l) (fallen t) _ (restarted t) k refl)
-run-suc k c l false ie ip ch false e =
+counted-suc k c l false ie ip ch false e =
     let t : Timer = enabled c l false ie ip ch in
     rw (e, left-falls t e) (stands-fall (countsLeft (fall c)) 1 (fallen t) _ (stopped t) k refl)
 
@@ -114,8 +114,8 @@ module _ (ticks m : ℕ) where
   -- what the direct form says of a timer after those ticks
   record Tick (b : Bool) (t : Timer) : Type 0 where
     runs :
-        run (countsIn (suc ticks) (more b m) t) t ≡
-        oneMore (underflowsNow b t) (run (countsIn ticks m (now b t)) (now b t))
+        counted (countsIn (suc ticks) (more b m) t) t ≡
+        oneMore (underflowsNow b t) (counted (countsIn ticks m (now b t)) (now b t))
     ie-kept : now b t .ie ≡ t .ie
 
   counting :
@@ -127,12 +127,12 @@ module _ (ticks m : ℕ) where
       let after : countsIn ticks m (count t) ≡ k =
       rw (count-keeps (λ (x : Timer). x .ch) t (λ c en ip. refl)) those in
       record {
-        runs = rw (now-too, these, after) (run-suc k c l rs ie ip ch _ refl);
+        runs = rw (now-too, these, after) (counted-suc k c l rs ie ip ch _ refl);
         ie-kept = rw now-too (count-keeps (λ (x : Timer). x .ie) t (λ c en ip. refl));
       }
 
   at-tick : (b : Bool) (t : Timer) → Tick b t
-  unfolding run
+  unfolding counted
   at-tick b t = by-flags b (t .counter) (t .reload) (t .en) (t .rs) (t .ie) (t .ip) (t .ch)
     where
       by-flags :
@@ -169,9 +169,9 @@ servedPulses-suc ticks m b (t ∷ ts) =
     refl
 
 -- Nothing happens in no time.
-run-none : (t : Timer) → run (countsIn 0 0 t) t ≡ idle t
-unfolding run falls
-run-none t =
+counted-none : (t : Timer) → counted (countsIn 0 0 t) t ≡ idle t
+unfolding counted falls
+counted-none t =
     rw (
       same (t .ch) zero,
       stands-none _ (countsLeft (t .reload)) (fallen t) (restarted t) (left-pos (t .counter)),
@@ -182,12 +182,12 @@ run-none t =
 
 pub served-none : (ts : List Timer) → served 0 0 ts ≡ ts
 served-none [] = refl
-served-none (t ∷ ts) = rw (run-none t, served-none ts) refl
+served-none (t ∷ ts) = rw (counted-none t, served-none ts) refl
 
 pub servedPulses-none : (ts : List Timer) → servedPulses 0 0 ts ≡ noPulses ts
 servedPulses-none [] = refl
 servedPulses-none (t ∷ ts) =
-    rw (run-none t, servedPulses-none ts, same (t .ie) zero) refl
+    rw (counted-none t, servedPulses-none ts, same (t .ie) zero) refl
 
 add-none : (ticks m : ℕ) (ts : List Timer) → addPulses (noPulses ts) (servedPulses ticks m ts) ≡ servedPulses ticks m ts
 add-none ticks m [] = refl

@@ -3,7 +3,7 @@ use borrow.Author.Needs.{needs}
 use Prim.Native.Nat.{_-_, _≤_}
 use mathlib.Core.Path.{_≡_, refl}
 use lib.ListN.{length, take}
-use Rattle.script.specs.Parts as parts
+use Rattle.script.specs.Private as private
 use Rattle.script.specs.Lent.{wrote}
 use Rattle.script.proofs.Writing.{none-written}
 use Rattle.script.proofs.entry.Longs.{next-long, all-longs}
@@ -12,7 +12,7 @@ use Rattle.script.proofs.entry.put_longs.Tie as tie
 
 abbrev Inv-loop : tie.InvT-loop
 Inv-loop log₀ at longs i₀ log i =
-    (i ≤ 6) × (length longs ≡ 6) × (length log ≡ length log₀) × (log ≡ wrote log₀ at (parts.longs (take i longs)))
+    (i ≤ 6) × (length longs ≡ 6) × (length log ≡ length log₀) × (log ≡ wrote log₀ at (private.longs (take i longs)))
 
 abbrev μ-loop : tie.MeasureT-loop
 μ-loop log₀ at longs i₀ log i = 6 - i

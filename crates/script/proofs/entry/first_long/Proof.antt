@@ -1,12 +1,12 @@
 -- The fields are joined to one number. Assumes nothing.
 use borrow.Author.Needs.{needs}
-use Rattle.script.proofs.entry.Longs.{access-joined}
-use Rattle.script.proofs.entry.access.Statement.{statement}
-use Rattle.script.proofs.entry.access.Tie as tie
+use Rattle.script.proofs.entry.Longs.{first-joined}
+use Rattle.script.proofs.entry.first_long.Statement.{statement}
+use Rattle.script.proofs.entry.first_long.Tie as tie
 
-pub access-spec : {M : Type 1} → statement M
-access-spec =
+pub first-long-spec : {M : Type 1} → statement M
+first-long-spec =
     tie.close
     (tie.spec (λ c. search needs) (λ c κs. search needs) (λ c. search needs) (λ c. search needs) (λ c. search needs)
     (λ c. search needs) (λ c. search needs) (λ c. search needs) (λ c. search needs)
-    (λ c. search (access-joined, needs)))
+    (λ c. search (first-joined, needs)))

@@ -17,8 +17,8 @@ longs [] = []
 longs (n ∷ ns) = encoded 8 n ++ longs ns
 
 -- the first 8 bytes of a log record
-abbrev pub access : (refusal : ℕ) (emitted : Bool) (byte levels value : ℕ) → List ℕ
-access refusal emitted byte levels value =
+abbrev pub firstLong : (refusal : ℕ) (emitted : Bool) (byte levels value : ℕ) → List ℕ
+firstLong refusal emitted byte levels value =
     encoded 1 refusal ++ encoded 1 (cond emitted 1 0) ++ encoded 1 byte ++ encoded 1 levels ++ encoded 4 value
 
 -- The machine that some records leave, and the log that they are written to.

@@ -27,4 +27,4 @@ pub data InPieces : List ℕ → List (List ℕ) → Type 0 where
 
 -- Room in the log for what a piece logs: a log record for each record.
 abbrev pub logLength : ℕ
-logLength = logs.recordLength * (pieceLength / recordLength)
+logLength = logs.entryLength * (pieceLength / recordLength)
