@@ -4,88 +4,31 @@
 // levels alone. `c PORT WORD` puts the word into that port's CONTROL past the bus, as no call can: without bit 31 the machine
 // is then ill formed. A line that begins with # begins a part, with a machine at reset. An empty line is passed over; any
 // other is answered with a question mark.
-ghost use Prim.Native.Nat.{_≤_};
 use bus::machine::Answer;
 use bus::machine::Machine;
 use libc::STDIN_FILENO;
-use libc::STDOUT_FILENO;
-
-// The line as far as it is read: the byte that it begins with, and the last three numbers in it.
-struct Line {
-    call: u8,
-    first: u64,
-    second: u64,
-    third: u64,
-}
+use lines::Line;
+use lines::byte;
+use lines::decimal;
+use lines::hex;
+use lines::row;
+use lines::say;
+use lines::word;
 
 fn main() {
     let mut input = io::buffer();
     let count = io::read_full(STDIN_FILENO, &mut input);
-    play(&input, count);
+    play(&input[..count]);
 }
 
-fn play(input: &[u8; 4096], count: usize)
-    requires { ⌜ count ≤ 4096 ⌝ }
-{
+fn play(input: &[u8]) {
     let mut machine = Machine::reset_state();
-    let mut line = begin();
-    let mut i = 0;
-    while i < count {
-        let byte = input[i];
-        i += 1;
-        if byte == b'\n' {
-            machine = call(machine, line);
-            line = begin();
-        } else {
-            line = line.read(byte);
-        }
+    let mut at = 0;
+    while at < input.len() {
+        let line = Line::read(input, at);
+        machine = call(machine, line);
+        at = line.next;
     }
-    call(machine, line);
-}
-
-fn begin() -> Line {
-    Line {
-        call: 0,
-        first: 0,
-        second: 0,
-        third: 0,
-    }
-}
-
-impl Line {
-    fn read(mut self, byte: u8) -> Self {
-        if self.call == 0 {
-            self.call = byte;
-            return self;
-        }
-        if byte == b' ' {
-            self.first = self.second;
-            self.second = self.third;
-            self.third = 0;
-            return self;
-        }
-        if b'0' <= byte {
-            self.third = self.third % 0x1000_0000_0000_0000 * 16 + digit(byte);
-        }
-        self
-    }
-}
-
-fn digit(byte: u8) -> u64
-    ensures { λ r. ⌜ r ≤ 15 ⌝ }
-{
-    if b'A' <= byte {
-        return (byte as u64 % 32 + 9) % 16;
-    }
-    byte as u64 % 16
-}
-
-fn word(n: u64) -> u32 {
-    (n % 0x1_0000_0000) as u32
-}
-
-fn byte(n: u64) -> u8 {
-    (n % 0x100) as u8
 }
 
 fn call(machine: Machine, line: Line) -> Machine {
@@ -193,7 +136,6 @@ fn put_control(mut machine: Machine, port: u8, value: u32) -> Machine {
 
 // Writes the answer and hands on the machine.
 fn answered(answer: Answer) -> Machine {
-    let counts = answer.pulses;
     say(b": number ");
     decimal(answer.refusal as u64);
     emitted(answer.emitted, answer.byte);
@@ -201,7 +143,11 @@ fn answered(answer: Answer) -> Machine {
     hex(answer.levels as u32, 2);
     say(b", value ");
     hex(answer.value, 8);
-    passed(answer.cycles, counts);
+    say(b", cycles ");
+    decimal(answer.cycles);
+    say(b", pulses ");
+    let pulses = answer.pulses;
+    row(pulses);
     answer.machine
 }
 
@@ -210,34 +156,4 @@ fn emitted(emitted: bool, byte: u8) {
     decimal(emitted as u64);
     say(b" ");
     hex(byte as u32, 2);
-}
-
-fn passed(cycles: u64, counts: [u64; 4]) {
-    say(b", cycles ");
-    decimal(cycles);
-    say(b", pulses ");
-    decimal(counts[0]);
-    say(b" ");
-    decimal(counts[1]);
-    pulses(counts[2], counts[3]);
-}
-
-fn pulses(third: u64, fourth: u64) {
-    say(b" ");
-    decimal(third);
-    say(b" ");
-    decimal(fourth);
-    say(b"\n");
-}
-
-fn say(text: &[u8]) {
-    io::write_all(STDOUT_FILENO, text);
-}
-
-fn decimal(n: u64) {
-    io::print_decimal(STDOUT_FILENO, n);
-}
-
-fn hex(n: u32, digits: usize) {
-    io::print_hex(STDOUT_FILENO, n as u64, digits);
 }

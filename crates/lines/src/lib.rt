@@ -1,0 +1,109 @@
+// Lines of text for the programs that play examples: numbers read, in hexadecimal, and written to standard output. No
+// contract can speak of what is written; the `stdout` of each program holds it.
+ghost use Prim.Native.Nat.{_<_, _≤_, _%_};
+ghost use mathlib.Core.Path.{_≡_};
+ghost use lib.ListN.{length};
+use libc::STDOUT_FILENO;
+
+pub struct Line {
+    // The byte that the line begins with; 0 where it is empty.
+    pub call: u8,
+    // The last three numbers in it; 0 in front where it has fewer.
+    pub first: u64,
+    pub second: u64,
+    pub third: u64,
+    // Where the next line begins.
+    pub next: usize,
+}
+
+impl Line {
+    // The line that begins at `from`. The next begins further on, so that a loop over the lines ends.
+    pub fn read(text: &[u8], from: usize) -> Self
+        ensures { λ r. ⌜ (from < length (now (text .entry)) → from < r .next) ⌝ }
+    {
+        let mut line = Line {
+            call: 0,
+            first: 0,
+            second: 0,
+            third: 0,
+            next: from,
+        };
+        let mut i = from;
+        while i < text.len() {
+            let byte = text[i];
+            i += 1;
+            line.next = i;
+            if byte == b'\n' {
+                return line;
+            }
+            line = line.with(byte);
+        }
+        line
+    }
+
+    fn with(mut self, byte: u8) -> Self
+        ensures { λ r. ⌜ r .next ≡ self .next ⌝ }
+    {
+        if self.call == 0 {
+            self.call = byte;
+            return self;
+        }
+        if byte == b' ' {
+            self.first = self.second;
+            self.second = self.third;
+            self.third = 0;
+            return self;
+        }
+        if b'0' <= byte {
+            self.third = self.third % 0x1000_0000_0000_0000 * 16 + digit(byte);
+        }
+        self
+    }
+}
+
+// The number that a hexadecimal digit stands for; any other byte stands for one too, since no line is refused.
+fn digit(byte: u8) -> u64
+    ensures { λ r. ⌜ r ≤ 15 ⌝ }
+{
+    if b'A' <= byte {
+        return (byte as u64 % 32 + 9) % 16;
+    }
+    byte as u64 % 16
+}
+
+pub fn word(n: u64) -> u32
+    ensures { λ r. ⌜ r ≡ n % 0x1_0000_0000 ⌝ }
+{
+    (n % 0x1_0000_0000) as u32
+}
+
+pub fn byte(n: u64) -> u8
+    ensures { λ r. ⌜ r ≡ n % 0x100 ⌝ }
+{
+    (n % 0x100) as u8
+}
+
+pub fn say(text: &[u8]) {
+    io::write_all(STDOUT_FILENO, text);
+}
+
+pub fn decimal(n: u64) {
+    io::print_decimal(STDOUT_FILENO, n);
+}
+
+// In hexadecimal, with zeros in front up to so many digits.
+pub fn hex(n: u32, digits: usize) {
+    io::print_hex(STDOUT_FILENO, n as u64, digits);
+}
+
+// Four numbers at the end of a line.
+pub fn row(numbers: [u64; 4]) {
+    decimal(numbers[0]);
+    say(b" ");
+    decimal(numbers[1]);
+    say(b" ");
+    decimal(numbers[2]);
+    say(b" ");
+    decimal(numbers[3]);
+    say(b"\n");
+}
