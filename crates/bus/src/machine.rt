@@ -159,7 +159,7 @@ impl Machine {
     }
 
     // The line levels as they are, bit p for port p.
-    pub fn levels(self) -> u8
+    pub(crate) fn levels(self) -> u8
         ensures { λ r. ⌜ r ≡ bus.levels (machineOf self) ⌝ }
     {
         let mut levels = 0;

@@ -1,9 +1,9 @@
 // Plays calls on the compiled machine and writes each with its whole answer. Standard input, of at most 4096 bytes, has one
 // call a line, its numbers in hexadecimal: `r SIZE ADDRESS` reads, `w SIZE ADDRESS VALUE` writes, `o PORT BYTE` offers a
-// byte, `a CYCLES` advances, `s LIMIT` skips, `x` resets, `m` stands for a malformed script record, `l` asks for the line
-// levels alone. `c PORT WORD` puts the word into that port's CONTROL past the bus, as no call can: without bit 31 the machine
-// is then ill formed. A line that begins with # begins a part, with a machine at reset. An empty line is passed over; any
-// other is answered with a question mark.
+// byte, `a CYCLES` advances, `s LIMIT` skips, `x` resets, `m` stands for a malformed script record. `c PORT WORD` puts the
+// word into that port's CONTROL past the bus, as no call can: without bit 31 the machine is then ill formed. A line that
+// begins with # begins a part, with a machine at reset. An empty line is passed over; any other is answered with a question
+// mark.
 use bus::machine::Answer;
 use bus::machine::Machine;
 use libc::STDIN_FILENO;
@@ -46,7 +46,6 @@ fn call(machine: Machine, line: Line) -> Machine {
         b's' => skip(machine, line.third),
         b'x' => reset(machine),
         b'm' => malformed(machine),
-        b'l' => levels(machine),
         b'c' => put_control(machine, byte(line.second), word(line.third)),
         b'#' => heading(),
         0 => machine,
@@ -112,13 +111,6 @@ fn reset(machine: Machine) -> Machine {
 fn malformed(machine: Machine) -> Machine {
     say(b"  malformed");
     answered(machine.malformed())
-}
-
-fn levels(machine: Machine) -> Machine {
-    say(b"  levels ");
-    hex(machine.levels() as u32, 2);
-    say(b"\n");
-    machine
 }
 
 fn put_control(mut machine: Machine, port: u8, value: u32) -> Machine {
