@@ -19,18 +19,15 @@ pub tested : (u : Apbuart) (b : Bool) → b ≡ wellFormed (portOf u) → b ≡ 
 tested u b e t = well-queue (portOf u) (rw (← e) t)
 
 module _ (u : Apbuart) (a : code.Answer) where
-  -- a test on what a call answered
-  pub answered-true : (b t : Bool) (x y : Answer) → b ≡ t → b ≡ true → Conforms u x a → Conforms u (cond t x y) a
-  answered-true b t x y e f p = rw (← e, f) p
-
-  pub answered-false : (b t : Bool) (x y : Answer) → b ≡ t → b ≡ false → Conforms u y a → Conforms u (cond t x y) a
-  answered-false b t x y e f p = rw (← e, f) p
-
   pub if-true : (b : Bool) (x y : Answer) → b ≡ true → Conforms u x a → Conforms u (cond b x y) a
   if-true b x y t p = rw t p
 
   pub if-false : (b : Bool) (x y : Answer) → b ≡ false → Conforms u y a → Conforms u (cond b x y) a
   if-false b x y t p = rw t p
+
+  -- a test is what a call answered
+  pub answered : (b t : Bool) (x y : Answer) → b ≡ t → Conforms u (cond b x y) a → Conforms u (cond t x y) a
+  answered b t x y e p = rw (← e) p
 
   -- an answer that is not refused
   goes-on : (x : Answer) → answerOf a ≡ x → x .refusal ≡ notRefused → Conforms u x a
@@ -63,4 +60,4 @@ module _ (u : Apbuart) (a : code.Answer) where
       Conforms u (accepted 0 (updateLevel (withQueue (queued (u .queue) ++ (b ∷ [])) (portOf u)))) a
   joins b p q e f g = accepts 0 0 p _ e refl (f ∙ ap (λ (l : List ℕ). updateLevel (withQueue l (portOf u))) g)
 
-pub ruleset conforming = (if-true, if-false, answered-true, answered-false, accepts, emits, stays, takes, joins, tests)
+pub ruleset conforming = (if-true, if-false, answered, accepts, emits, stays, takes, joins, tests)

@@ -1,9 +1,12 @@
 -- The refusal of a file, from the code's tests. Assumes nothing.
 use Prim.Native.Nat.{ℕ, _≤_, _<_}
-use mathlib.Core.Path.{_≡_, refl}
+use mathlib.Core.Path.{_≡_, refl, _∙_}
+use mathlib.Core.Bool.{not, cond}
 use mathlib.Core.List.{List}
+use lib.Dec.{eqb}
 use lib.ListN.{length}
 use borrow.Author.Tests.{le-ltb, lt-ltb, eq-eqb, ne-eqb}
+use Rattle.devices.specs.Cases.{chosen, cases}
 use Rattle.devices.specs.Refusal.{notRefused}
 use Rattle.script.specs.Number.{number}
 use Rattle.script.specs.Refusal.{badFile, badVersion}
@@ -19,24 +22,11 @@ module _ (f : Format) (file : List ℕ) where
     other-mark differs = rw (le-ltb (length file) headerLength long, ← e, ne-eqb m (f .mark) differs) refl
 
     module _ (h : m ≡ f .mark) (n : ℕ) (g : n ≡ number 3 2 file) where
-      pub other-version : (n ≡ f .version → ⊥) → badVersion ≡ refusal f file
-      other-version differs =
-          rw (
-            le-ltb (length file) headerLength long,
-            ← e,
-            eq-eqb m (f .mark) h,
-            ← g,
-            ne-eqb n (f .version) differs,
-          ) refl
+      -- the last test, which the definition has negated
+      pub marked : (r : ℕ) → r ≡ cond (eqb n (f .version)) notRefused badVersion → r ≡ refusal f file
+      marked r last =
+          rw (le-ltb (length file) headerLength long, ← e, eq-eqb m (f .mark) h, ← g)
+          (last ∙
+          chosen (λ b x. x ≡ cond (not b) badVersion notRefused) (eqb n (f .version)) notRefused badVersion refl refl)
 
-      pub right-version : n ≡ f .version → notRefused ≡ refusal f file
-      right-version k =
-          rw (
-            le-ltb (length file) headerLength long,
-            ← e,
-            eq-eqb m (f .mark) h,
-            ← g,
-            eq-eqb n (f .version) k,
-          ) refl
-
-pub ruleset judging = (too-short, other-mark, other-version, right-version)
+pub ruleset judging = (too-short, other-mark, marked, cases)
