@@ -3,9 +3,7 @@
 use devices::apbuart::Answer;
 use devices::apbuart::Apbuart;
 use devices::fifo::DEPTH;
-use lines::decimal;
-use lines::hex;
-use lines::say;
+use libc::STDOUT_FILENO;
 
 fn main() {
     let full = receive_queue();
@@ -118,7 +116,7 @@ fn reset(port: Apbuart) -> Apbuart {
 // Writes the answer and hands on the port.
 fn answered(answer: Answer) -> Apbuart {
     say(b": refusal ");
-    decimal(answer.refusal as u64);
+    io::print_decimal(STDOUT_FILENO, answer.refusal as u64);
     say(b", value ");
     hex(answer.value, 8);
     if answer.emitted {
@@ -132,4 +130,12 @@ fn answered(answer: Answer) -> Apbuart {
         say(b", level 0\n");
     }
     port
+}
+
+fn hex(number: u32, width: usize) {
+    io::print_hex(STDOUT_FILENO, number as u64, width);
+}
+
+fn say(text: &[u8]) {
+    io::write_all(STDOUT_FILENO, text);
 }

@@ -7,12 +7,9 @@
 use bus::machine::Answer;
 use bus::machine::Machine;
 use libc::STDIN_FILENO;
+use libc::STDOUT_FILENO;
 use lines::Line;
 use lines::byte;
-use lines::decimal;
-use lines::hex;
-use lines::row;
-use lines::say;
 use lines::word;
 
 fn main() {
@@ -148,4 +145,28 @@ fn emitted(emitted: bool, byte: u8) {
     decimal(emitted as u64);
     say(b" ");
     hex(byte as u32, 2);
+}
+
+fn say(text: &[u8]) {
+    io::write_all(STDOUT_FILENO, text);
+}
+
+fn decimal(n: u64) {
+    io::print_decimal(STDOUT_FILENO, n);
+}
+
+fn hex(n: u32, digits: usize) {
+    io::print_hex(STDOUT_FILENO, n as u64, digits);
+}
+
+// Four numbers at the end of a line.
+fn row(numbers: [u64; 4]) {
+    decimal(numbers[0]);
+    say(b" ");
+    decimal(numbers[1]);
+    say(b" ");
+    decimal(numbers[2]);
+    say(b" ");
+    decimal(numbers[3]);
+    say(b"\n");
 }

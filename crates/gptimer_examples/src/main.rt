@@ -4,11 +4,8 @@
 use devices::gptimer::Elapsed;
 use devices::gptimer::Gptimer;
 use libc::STDIN_FILENO;
+use libc::STDOUT_FILENO;
 use lines::Line;
-use lines::decimal;
-use lines::hex;
-use lines::row;
-use lines::say;
 use lines::word;
 
 fn main() {
@@ -87,4 +84,28 @@ fn passed(span: u64, answer: Elapsed) -> Gptimer {
     let pulses = answer.pulses;
     row(pulses);
     answer.unit
+}
+
+fn say(text: &[u8]) {
+    io::write_all(STDOUT_FILENO, text);
+}
+
+fn decimal(n: u64) {
+    io::print_decimal(STDOUT_FILENO, n);
+}
+
+fn hex(n: u32, digits: usize) {
+    io::print_hex(STDOUT_FILENO, n as u64, digits);
+}
+
+// Four numbers at the end of a line.
+fn row(numbers: [u64; 4]) {
+    decimal(numbers[0]);
+    say(b" ");
+    decimal(numbers[1]);
+    say(b" ");
+    decimal(numbers[2]);
+    say(b" ");
+    decimal(numbers[3]);
+    say(b"\n");
 }

@@ -1,9 +1,7 @@
-// Lines of text for the programs that play examples: numbers read, in hexadecimal, and written to standard output. No
-// contract can speak of what is written; the `stdout` of each program holds it.
+// Lines of text for the programs that play examples: a call and its numbers, in hexadecimal.
 ghost use Prim.Native.Nat.{_<_, _≤_, _%_};
 ghost use mathlib.Core.Path.{_≡_};
 ghost use lib.ListN.{length};
-use libc::STDOUT_FILENO;
 
 pub struct Line {
     // The byte that the line begins with; 0 where it is empty.
@@ -81,29 +79,4 @@ pub fn byte(n: u64) -> u8
     ensures { λ r. ⌜ r ≡ n % 0x100 ⌝ }
 {
     (n % 0x100) as u8
-}
-
-pub fn say(text: &[u8]) {
-    io::write_all(STDOUT_FILENO, text);
-}
-
-pub fn decimal(n: u64) {
-    io::print_decimal(STDOUT_FILENO, n);
-}
-
-// In hexadecimal, with zeros in front up to so many digits.
-pub fn hex(n: u32, digits: usize) {
-    io::print_hex(STDOUT_FILENO, n as u64, digits);
-}
-
-// Four numbers at the end of a line.
-pub fn row(numbers: [u64; 4]) {
-    decimal(numbers[0]);
-    say(b" ");
-    decimal(numbers[1]);
-    say(b" ");
-    decimal(numbers[2]);
-    say(b" ");
-    decimal(numbers[3]);
-    say(b"\n");
 }
