@@ -1,0 +1,723 @@
+//! Scripts determined by a seed, varied and biased to rare states. It knows nothing of the model's
+//! behaviour: it only remembers what it wrote to the timer unit, to choose spans near the unit's
+//! periods.
+
+use crate::random::Random;
+use crate::script::{Call, CALL_LENGTH, SCRIPT_HEADER};
+use crate::{timer, uart};
+
+#[derive(Clone, Copy, Debug, PartialEq, Eq)]
+pub enum Family {
+    /// Timer units with spans of every length.
+    Timers,
+    /// Timer units with small periods and at most `SHORT_TOTAL` cycles, for the single-cycle mode.
+    Short,
+    /// Serial ports.
+    Serial,
+    /// Accesses at and around the windows' edges, of all sizes.
+    Windows,
+    /// All of the above.
+    Mixed,
+    /// The same with malformed records between.
+    Damaged,
+    /// Good and bad headers.
+    Headers,
+    /// Random bytes.
+    Bytes,
+    /// Record counts around multiples of 4096 bytes.
+    Long,
+}
+
+pub const FAMILIES: [Family; 9] = [
+    Family::Timers,
+    Family::Short,
+    Family::Serial,
+    Family::Windows,
+    Family::Mixed,
+    Family::Damaged,
+    Family::Headers,
+    Family::Bytes,
+    Family::Long,
+];
+
+/// The most cycles that the advances and skips of a `Short` script ask for in all.
+pub const SHORT_TOTAL: u64 = 100_000;
+
+/// The family of a seed. Any 16 seeds in a row hold every family.
+pub fn family(seed: u64) -> Family {
+    use Family::*;
+    const TURNS: [Family; 16] = [
+        Short, Timers, Mixed, Serial, Short, Windows, Timers, Headers, //
+        Short, Damaged, Timers, Serial, Short, Bytes, Mixed, Long,
+    ];
+    TURNS[(seed % 16) as usize]
+}
+
+/// The script of a seed.
+pub fn script(seed: u64) -> Vec<u8> {
+    let mut generator = Generator::new(seed, family(seed));
+    generator.fill();
+    generator.script
+}
+
+/// A script of a number of records, mostly accesses and short advances, for measurements
+/// of speed. Nine in ten advances end before the next tick.
+pub fn batch(seed: u64, records: usize) -> Vec<u8> {
+    let mut generator = Generator::new(seed, Family::Mixed);
+    while generator.records() < records {
+        generator.batch_step();
+    }
+    generator.script.truncate(SCRIPT_HEADER.len() + records * CALL_LENGTH);
+    generator.script
+}
+
+const UNIT: u32 = 0x8000_0300;
+const PORTS: [u32; 6] = [0x8000_0100, 0x8010_0100, 0x8010_0200, 0x8010_0300, 0x8010_0400, 0x8010_0500];
+const WINDOW: u32 = 0x100;
+
+/// For each kind, the bytes of its record that must be 0.
+const BLANKS: [&[usize]; 7] = [
+    &[],
+    &[2, 3, 8, 9, 10, 11, 12, 13, 14, 15],
+    &[2, 3, 8, 9, 10, 11],
+    &[3, 4, 5, 6, 7, 8, 9, 10, 11, 12, 13, 14, 15],
+    &[1, 2, 3, 4, 5, 6, 7],
+    &[1, 2, 3, 4, 5, 6, 7],
+    &[1, 2, 3, 4, 5, 6, 7, 8, 9, 10, 11, 12, 13, 14, 15],
+];
+
+struct Generator {
+    random: Random,
+    script: Vec<u8>,
+    family: Family,
+    /// Whether some records are pushed malformed.
+    damaging: bool,
+    /// What is left of `SHORT_TOTAL`.
+    cycles_left: u64,
+    /// The values last written to the timer unit.
+    scaler: u64,
+    scaler_reload: u64,
+    counters: [u64; timer::TIMERS],
+    reloads: [u64; timer::TIMERS],
+}
+
+impl Generator {
+    fn new(seed: u64, family: Family) -> Generator {
+        Generator {
+            random: Random::new(seed),
+            script: SCRIPT_HEADER.to_vec(),
+            family,
+            damaging: false,
+            cycles_left: SHORT_TOTAL,
+            scaler: 0xFFFF,
+            scaler_reload: 0xFFFF,
+            counters: [0, 0, 0, 0xFFFF],
+            reloads: [0, 0, 0, 0xFFFF],
+        }
+    }
+
+    fn fill(&mut self) {
+        let count = 20 + self.random.below(100) as usize;
+        match self.family {
+            Family::Timers | Family::Short => self.repeat(count, Generator::timer_step),
+            Family::Serial => self.repeat(count, Generator::serial_step),
+            Family::Windows => self.repeat(count, Generator::window_step),
+            Family::Mixed => self.repeat(count, Generator::mixed_step),
+            Family::Damaged if self.random.one_in(4) => self.every_blank(),
+            Family::Damaged => {
+                self.damaging = true;
+                self.repeat(count, Generator::mixed_step);
+                self.damaging = false;
+            }
+            Family::Headers => return self.header(),
+            Family::Bytes => return self.bytes(),
+            Family::Long => {
+                // With its header, a script of 256 or 512 records ends just behind a multiple of
+                // 4096 bytes.
+                let start = self.random.pick(&[250, 250, 509, 509, 762, 1000, 1000, 4090]);
+                let target = start + self.random.below(12) as usize;
+                self.repeat(target, Generator::mixed_step);
+                self.script.truncate(SCRIPT_HEADER.len() + target * CALL_LENGTH);
+                return self.tail();
+            }
+        }
+        self.read_everything();
+        if self.random.one_in(4) {
+            self.tail();
+        }
+    }
+
+    fn repeat(&mut self, count: usize, step: fn(&mut Generator)) {
+        while self.records() < count {
+            if self.random.one_in(50) {
+                self.push(Call::Reset);
+                (self.scaler, self.scaler_reload) = (0xFFFF, 0xFFFF);
+                (self.counters, self.reloads) = ([0, 0, 0, 0xFFFF], [0, 0, 0, 0xFFFF]);
+            }
+            step(self);
+        }
+    }
+
+    fn mixed_step(&mut self) {
+        match self.random.below(8) {
+            0..=2 => self.timer_step(),
+            3..=5 => self.serial_step(),
+            6 => self.window_step(),
+            _ => self.pass(),
+        }
+    }
+
+    // Records.
+
+    fn records(&self) -> usize {
+        self.script.len().saturating_sub(SCRIPT_HEADER.len()) / CALL_LENGTH
+    }
+
+    fn push(&mut self, call: Call) {
+        let mut record = call.encode();
+        if self.damaging && self.random.one_in(3) {
+            self.damage(&mut record);
+        }
+        self.script.extend_from_slice(&record);
+    }
+
+    fn damage(&mut self, record: &mut [u8; CALL_LENGTH]) {
+        let nonzero = self.random.pick(&[1, 2, 0x10, 0x80, 0xFF]);
+        match self.random.below(6) {
+            0..=2 => record[self.random.pick(BLANKS[usize::from(record[0])])] = nonzero,
+            3 => {
+                if self.random.one_in(2) {
+                    record.fill(0);
+                }
+                record[0] = self.random.pick(&[0, 7, 8, 9, 0x81, 0x86, 0xFF]);
+            }
+            4 => record[self.random.below(16) as usize] = self.random.byte(),
+            _ => record.fill_with(|| self.random.byte()),
+        }
+    }
+
+    fn read(&mut self, address: u32) {
+        self.push(Call::Read { size: 4, address });
+    }
+
+    fn write(&mut self, address: u32, value: u32) {
+        self.push(Call::Write { size: 4, address, value });
+    }
+
+    fn tail(&mut self) {
+        let length = self.random.below(16) as usize;
+        let call =
+            self.random.pick(&[Call::Reset, Call::Advance { cycles: 1 }, Call::Offer { port: 0, byte: 1 }]);
+        let mut record = call.encode();
+        if self.random.one_in(2) {
+            record.fill_with(|| self.random.byte());
+        }
+        self.script.extend_from_slice(&record[..length]);
+    }
+
+    // Timer unit.
+
+    fn timer_step(&mut self) {
+        match self.random.below(10) {
+            0 | 1 => self.set_up_timers(),
+            2 => self.set_up_chain(),
+            3 if self.family != Family::Short && self.random.one_in(3) => self.set_up_long_chain(),
+            3 => self.set_up_chain(),
+            4 => self.write_timer_register(),
+            5 => self.read_timers(),
+            6 => {
+                let offset = 4 * self.random.below(24) as u32;
+                self.read(UNIT + offset);
+            }
+            _ => {
+                for _ in 0..=self.random.below(4) {
+                    self.pass();
+                }
+                if self.random.one_in(2) {
+                    self.read_timers();
+                }
+            }
+        }
+    }
+
+    fn write_timer(&mut self, timer: usize, register: u32, value: u32) {
+        match register {
+            timer::COUNTER => self.counters[timer - 1] = value.into(),
+            timer::RELOAD => self.reloads[timer - 1] = value.into(),
+            _ if value & timer::LD != 0 => self.counters[timer - 1] = self.reloads[timer - 1],
+            _ => {}
+        }
+        self.write(UNIT + timer as u32 * timer::TIMER_STRIDE + register, value);
+    }
+
+    fn write_prescaler(&mut self) {
+        if !self.random.one_in(4) {
+            let value = self.prescaler_value();
+            self.scaler_reload = u64::from(value as u16);
+            self.write(UNIT + timer::SCALER_RELOAD, value);
+        }
+        if !self.random.one_in(4) {
+            let value = self.prescaler_value();
+            self.scaler = u64::from(value as u16);
+            self.write(UNIT + timer::SCALER, value);
+        }
+    }
+
+    fn set_up_timers(&mut self) {
+        self.write_prescaler();
+        for timer in 1..=timer::TIMERS {
+            if self.random.one_in(3) {
+                continue;
+            }
+            let (reload, counter, control) =
+                (self.counter_value(), self.counter_value(), self.control_value());
+            self.write_timer(timer, timer::RELOAD, reload);
+            if !self.random.one_in(4) {
+                self.write_timer(timer, timer::COUNTER, counter);
+            }
+            self.write_timer(timer, timer::CONTROL, control);
+        }
+    }
+
+    /// A chain of 2 to 4 timers with small reloads, now and then broken by a one-shot or a disabled
+    /// timer.
+    fn set_up_chain(&mut self) {
+        self.write_prescaler();
+        let first = 1 + self.random.below(3) as usize;
+        let last = (first + 1 + self.random.below(3) as usize).min(timer::TIMERS);
+        for timer in first..=last {
+            let mut control = timer::EN | timer::RS;
+            if timer > first || self.random.one_in(6) {
+                control |= timer::CH;
+            }
+            if timer == last || self.random.one_in(4) {
+                control |= timer::IE;
+            }
+            match self.random.below(12) {
+                0 | 1 => control &= !timer::RS,
+                2 => control &= !timer::EN,
+                3 => control |= timer::IP,
+                4 => control |= timer::LD,
+                _ => {}
+            }
+            let reload =
+                if self.random.one_in(8) { self.counter_value() } else { 1 + self.random.below(5) as u32 };
+            let counter = if self.random.one_in(4) { self.counter_value() } else { reload };
+            self.write_timer(timer, timer::RELOAD, reload);
+            self.write_timer(timer, timer::COUNTER, counter);
+            self.write_timer(timer, timer::CONTROL, control);
+        }
+    }
+
+    /// Timers 1 and 2, or 1 to 3, chained, with the only pulse so far away that its tick or cycle
+    /// may not fit into 64 bits; and a skip to it.
+    fn set_up_long_chain(&mut self) {
+        self.write_prescaler();
+        let last = 2 + self.random.below(2) as usize;
+        for timer in 1..=timer::TIMERS {
+            let shorter = u32::MAX >> self.random.below(24);
+            let number = self.random.pick(&[0, 1 << 31, u32::MAX, shorter, shorter]);
+            let few = self.random.below(3) as u32;
+            let control = match timer {
+                _ if timer > last => 0,
+                _ if timer == last => timer::EN | timer::RS | timer::IE | timer::CH,
+                _ => timer::EN | timer::RS | timer::CH,
+            };
+            self.write_timer(timer, timer::RELOAD, number.wrapping_sub(few));
+            self.write_timer(timer, timer::COUNTER, number);
+            self.write_timer(timer, timer::CONTROL, control);
+        }
+        let limit = self.random.pick(&[u64::MAX, u64::MAX, u64::MAX - 1, 1 << 63]);
+        self.push(Call::Skip { limit });
+        self.read_timers();
+    }
+
+    fn write_timer_register(&mut self) {
+        let timer = 1 + self.random.below(4) as usize;
+        match self.random.below(8) {
+            0 => {
+                let value = self.counter_value();
+                self.write_timer(timer, timer::COUNTER, value);
+            }
+            1 => {
+                let value = self.counter_value();
+                self.write_timer(timer, timer::RELOAD, value);
+            }
+            2 => {
+                let value = self.random.pick(&[0, 0x200, 0x1FF, 0xFFFF_FDFF, 0xFFFF_FFFF]);
+                self.write(UNIT + timer::CONFIG, value);
+                self.read(UNIT + timer::CONFIG);
+            }
+            3 => self.write_prescaler(),
+            4 => {
+                let (offset, value) =
+                    (self.random.pick(&[0x0C, 0x1C, 0x2C, 0x3C, 0x4C, 0x50, 0xFC]), self.random.word());
+                self.write(UNIT + offset, value);
+                self.read(UNIT + offset);
+            }
+            _ => {
+                let value = self.control_value();
+                self.write_timer(timer, timer::CONTROL, value);
+            }
+        }
+    }
+
+    fn prescaler_value(&mut self) -> u32 {
+        let wide = self.family != Family::Short || self.random.one_in(6);
+        match self.random.below(8) {
+            0 if wide => 0,
+            1 if wide => self.random.pick(&[0xFFFF, 0xFFFE, 0x1_0000, 0x1_0001, 0xFFFF_FFFF, 0xABCD_0003]),
+            2 if wide => self.random.word() >> self.random.below(32),
+            3 => self.random.below(40) as u32,
+            _ => self.random.below(5) as u32,
+        }
+    }
+
+    fn counter_value(&mut self) -> u32 {
+        match self.random.below(10) {
+            0 => self.random.pick(&[0, 1]),
+            1 => self.random.below(40) as u32,
+            2 => self.random.pick(&[0xFFFF, 0x1_0000, 0x8000_0000, 0xFFFF_FFFE, 0xFFFF_FFFF]),
+            3 if self.family != Family::Short => self.random.word() >> self.random.below(32),
+            _ => 1 + self.random.below(6) as u32,
+        }
+    }
+
+    fn control_value(&mut self) -> u32 {
+        let high_bits = if self.random.one_in(4) { self.random.word() & !0x3F } else { 0 };
+        let value = match self.random.below(8) {
+            0 | 1 => timer::EN | timer::RS | timer::IE,
+            2 => timer::EN | timer::IE,
+            3 => timer::EN | timer::RS | timer::IE | timer::CH,
+            _ => self.random.below(64) as u32,
+        };
+        value | high_bits
+    }
+
+    fn pass(&mut self) {
+        let mut span = self.span();
+        if self.family == Family::Short {
+            // A period of 65536 fits into the total once.
+            let most = if self.random.one_in(20) { 70_000 } else { 2_000 };
+            span = span.min(most).min(self.cycles_left);
+            self.cycles_left -= span;
+        }
+        let call =
+            if self.random.one_in(2) { Call::Advance { cycles: span } } else { Call::Skip { limit: span } };
+        self.push(call);
+    }
+
+    fn span(&mut self) -> u64 {
+        let counts = |number: u64| if number == 0 { 1 << 32 } else { number };
+        let period = if self.scaler_reload == 0 { 1 << 16 } else { self.scaler_reload + 1 };
+        let near = self.random.pick(&[0, 0, 0, 1, u64::MAX, 2, u64::MAX - 1]);
+        match self.random.below(if self.family == Family::Short { 7 } else { 10 }) {
+            0 => self.random.below(4),
+            1 => self.random.below(50),
+            2 => self.scaler.wrapping_add(near),
+            // Near the first underflow after a set-up.
+            3 => {
+                let counter = counts(self.random.pick(&self.counters));
+                (self.scaler + 1).wrapping_add(period.wrapping_mul(counter - 1)).wrapping_add(near)
+            }
+            // Near multiples of the periods of the prescaler, of a timer, and of a chain.
+            4..=6 => {
+                let (first, length) = (self.random.below(4) as usize, self.random.below(4) as usize);
+                let mut base = period;
+                for &reload in self.reloads.iter().skip(first).take(length) {
+                    base = base.saturating_mul(counts(reload));
+                }
+                let most = if self.random.one_in(4) { u64::MAX / base } else { 6.min(u64::MAX / base) };
+                base.wrapping_mul(1 + self.random.below(most)).wrapping_add(near)
+            }
+            7 => (1 << self.random.below(64)) + self.random.below(3) - 1,
+            8 => self.random.pick(&[u64::MAX, u64::MAX - 1, u64::MAX / 2, 1 << 63, 1 << 48, 1 << 32]),
+            _ => self.random.next_u64() >> self.random.below(64),
+        }
+    }
+
+    fn read_timers(&mut self) {
+        for offset in [timer::SCALER, timer::SCALER_RELOAD, timer::CONFIG] {
+            self.read(UNIT + offset);
+        }
+        for timer in 1..=timer::TIMERS as u32 {
+            for register in [timer::COUNTER, timer::RELOAD, timer::CONTROL] {
+                self.read(UNIT + timer * timer::TIMER_STRIDE + register);
+            }
+        }
+    }
+
+    // Serial ports.
+
+    fn serial_step(&mut self) {
+        // Mostly one of two ports, so that queues fill.
+        let port = self.random.pick(&[0, 0, 0, 3, 3, 3, 1, 2, 4, 5]);
+        let base = PORTS[port];
+        let run = if self.random.one_in(4) { 12 } else { 1 + self.random.below(3) };
+        match self.random.below(16) {
+            0..=2 => {
+                let mut value = self.random.below(16) as u32;
+                value |= self.random.pick(&[0, uart::RE, uart::RE]);
+                value |= self.random.pick(&[0, 0, 0x8000_0000, 0xFFFF_FFF0, 0x0000_0FB0]);
+                self.write(base + uart::CONTROL, value);
+                if self.random.one_in(2) {
+                    self.read(base + uart::CONTROL);
+                }
+            }
+            3..=5 => {
+                for _ in 0..run {
+                    let byte = self.random.byte();
+                    self.push(Call::Offer { port: port as u8, byte });
+                }
+            }
+            6 | 7 => {
+                for _ in 0..run {
+                    self.read(base + uart::DATA);
+                }
+            }
+            8 => self.read(base + uart::STATUS),
+            9 => {
+                let value = if self.random.one_in(4) { 0xFFFF_FF00 } else { self.random.word() };
+                self.write(base + uart::DATA, value);
+            }
+            10 => {
+                let value = self.random.word();
+                self.write(base + uart::SCALER, value);
+                self.read(base + uart::SCALER);
+            }
+            11 => {
+                let offset = self.random.pick(&[0x04, 0x10, 0x14, 0x20, 0xFC]);
+                let value = self.random.word();
+                self.write(base + offset, value);
+                self.read(base + offset);
+            }
+            12 => {
+                let port = self.random.pick(&[0, 1, 2, 3, 4, 5, 6, 7, 8, 0x80, 0xFF]);
+                let byte = self.random.byte();
+                self.push(Call::Offer { port, byte });
+            }
+            13 => self.read_port(base),
+            14 => self.drain_raised(port, run),
+            _ => self.switch_receiver_off(port, run),
+        }
+    }
+
+    /// Bytes wait while RE is off; then it is switched on again.
+    fn switch_receiver_off(&mut self, port: usize, run: u64) {
+        let control = self.random.below(8) as u32 * uart::TE;
+        self.write(PORTS[port] + uart::CONTROL, control | uart::RE);
+        for _ in 0..run {
+            let byte = self.random.byte();
+            self.push(Call::Offer { port: port as u8, byte });
+        }
+        self.write(PORTS[port] + uart::CONTROL, control);
+        for _ in 0..self.random.below(4) {
+            match self.random.below(3) {
+                0 => self.push(Call::Offer { port: port as u8, byte: 0xEE }),
+                1 => self.read(PORTS[port] + uart::DATA),
+                _ => self.read(PORTS[port] + uart::STATUS),
+            }
+        }
+        if self.random.one_in(2) {
+            self.write(PORTS[port] + uart::CONTROL, control | uart::RE);
+            for _ in 0..run {
+                self.read(PORTS[port] + uart::DATA);
+            }
+        }
+    }
+
+    /// Takes all received bytes of a port whose line is raised, which leaves the level, and then
+    /// does something that must leave it too.
+    fn drain_raised(&mut self, port: usize, run: u64) {
+        let base = PORTS[port];
+        self.write(base + uart::CONTROL, uart::RE | uart::TE | uart::RI);
+        for byte in 0..run as u8 {
+            self.push(Call::Offer { port: port as u8, byte });
+        }
+        for _ in 0..8 {
+            self.read(base + uart::DATA);
+        }
+        match self.random.below(6) {
+            0 => self.write(base + uart::DATA, 0x55),
+            1 => self.write(base + uart::STATUS, 0xFFFF_FFFF),
+            2 => self.write(base + uart::SCALER, 1),
+            3 => self.write(base + 0x10, 0xFFFF_FFFF),
+            4 => self.pass(),
+            _ => self.push(Call::Offer { port: 6, byte: 1 }),
+        }
+        self.read_port(base);
+    }
+
+    fn read_port(&mut self, base: u32) {
+        for offset in [uart::STATUS, uart::CONTROL, uart::SCALER] {
+            self.read(base + offset);
+        }
+    }
+
+    /// Reads every register, and empties the receive queues.
+    fn read_everything(&mut self) {
+        self.read_timers();
+        for port in [0, 1, 2, 3, 4, 5] {
+            self.read_port(PORTS[port]);
+            if port == 0 || port == 3 || self.random.one_in(4) {
+                self.write(PORTS[port] + uart::CONTROL, uart::RE | uart::RI);
+                for _ in 0..9 {
+                    self.read(PORTS[port] + uart::DATA);
+                }
+                self.read_port(PORTS[port]);
+            }
+        }
+    }
+
+    // Windows.
+
+    fn window_step(&mut self) {
+        let address = self.address();
+        let size = match self.random.below(4) {
+            0 | 1 => 4,
+            2 => self.random.pick(&[0, 1, 2, 3, 4, 5, 8, 255]),
+            _ => self.random.byte(),
+        };
+        if self.random.one_in(2) {
+            self.push(Call::Read { size, address });
+        } else {
+            let value = self.random.word() >> self.random.below(32);
+            self.push(Call::Write { size, address, value });
+        }
+    }
+
+    fn address(&mut self) -> u32 {
+        let base = if self.random.one_in(3) { UNIT } else { self.random.pick(&PORTS) };
+        let few = self.random.below(9) as u32;
+        match self.random.below(8) {
+            0 | 1 => base + 4 * self.random.below(20) as u32,
+            2 => base + self.random.below(0x100) as u32,
+            3 => base + WINDOW - few,
+            4 => base - few,
+            5 => base + WINDOW + few,
+            6 => base ^ 1 << self.random.below(32),
+            _ => match self.random.below(4) {
+                0 => few,
+                1 => u32::MAX - few,
+                2 => self.random.pick(&[
+                    0x8000_0000,
+                    0x8000_0200,
+                    0x8000_0400,
+                    0x8010_0000,
+                    0x8010_0600,
+                    0xFF90_0000,
+                ]),
+                _ => self.random.word(),
+            },
+        }
+    }
+
+    // Damaged scripts.
+
+    /// One record of each kind with each of its blank bytes set in turn, on a machine where the
+    /// undamaged record would show; and the kinds that do not exist.
+    fn every_blank(&mut self) {
+        self.write(PORTS[0] + uart::CONTROL, uart::RE | uart::TE | uart::RI);
+        for byte in 1..=4 {
+            self.push(Call::Offer { port: 0, byte });
+        }
+        self.write(UNIT + timer::SCALER, 3);
+        let calls = [
+            Call::Read { size: 4, address: PORTS[0] + uart::DATA },
+            Call::Write { size: 4, address: PORTS[0] + uart::DATA, value: 0x41 },
+            Call::Write { size: 4, address: UNIT + timer::SCALER_RELOAD, value: 5 },
+            Call::Offer { port: 0, byte: 9 },
+            Call::Advance { cycles: 1 },
+            Call::Skip { limit: 2 },
+            Call::Reset,
+        ];
+        for call in calls {
+            for &blank in BLANKS[usize::from(call.encode()[0])] {
+                let mut record = call.encode();
+                record[blank] = 1 << self.random.below(8);
+                self.script.extend_from_slice(&record);
+            }
+        }
+        for kind in [0, 7, 8, 9, 10, 0x10, 0x20, 0x40, 0x80, 0x86, 0xFF] {
+            let mut record = [0; CALL_LENGTH];
+            record[0] = kind;
+            self.script.extend_from_slice(&record);
+        }
+    }
+
+    /// Headers cut short or with some bytes changed, with and without records and a tail behind.
+    fn header(&mut self) {
+        if self.random.one_in(2) {
+            for _ in 0..self.random.below(4) {
+                self.mixed_step();
+            }
+            if self.random.one_in(2) {
+                self.tail();
+            }
+        }
+        for _ in 0..self.random.pick(&[0, 1, 1, 1, 2]) {
+            let index = self.random.pick(&[0, 1, 2, 3, 3, 4, 4]);
+            self.script[index] = match self.random.below(4) {
+                0 => self.random.byte(),
+                1 => self.script[index] ^ 1 << self.random.below(8),
+                2 => self.script[index].wrapping_add(1),
+                _ => b"apl\x01\x00"[index],
+            };
+        }
+        if self.random.one_in(3) {
+            self.script.truncate(self.random.below(6) as usize);
+        }
+    }
+
+    /// Random bytes: at all places, behind a good header, with the kinds that exist, or with blanks
+    /// besides.
+    fn bytes(&mut self) {
+        let shape = self.random.below(4);
+        if shape == 0 {
+            self.script.clear();
+        }
+        for _ in 0..self.random.below(60) {
+            let mut record = [0; CALL_LENGTH];
+            record.fill_with(|| self.random.byte());
+            if shape >= 2 {
+                record[0] = 1 + self.random.below(6) as u8;
+            }
+            if shape == 3 {
+                for &blank in BLANKS[usize::from(record[0])] {
+                    record[blank] = 0;
+                }
+            }
+            self.script.extend_from_slice(&record);
+        }
+        self.tail();
+    }
+
+    // Batches.
+
+    fn batch_step(&mut self) {
+        let base = self.random.pick(&PORTS);
+        let register = UNIT + 4 * self.random.below(20) as u32;
+        let call = match self.random.below(100) {
+            0..=19 => Call::Read { size: 4, address: base + 4 * self.random.below(4) as u32 },
+            20..=39 => Call::Read { size: 4, address: register },
+            40..=54 => Call::Write { size: 4, address: base + uart::DATA, value: self.random.word() },
+            55..=57 => {
+                Call::Write { size: 4, address: base + uart::CONTROL, value: uart::RE | uart::TE | uart::RI }
+            }
+            58..=63 => {
+                let timer = UNIT + timer::TIMER_STRIDE * (1 + self.random.below(4) as u32);
+                let (register, value) = self.random.pick(&[
+                    (timer::COUNTER, 0x20),
+                    (timer::RELOAD, 0x40),
+                    (timer::CONTROL, timer::EN | timer::RS | timer::IE),
+                ]);
+                Call::Write { size: 4, address: timer + register, value }
+            }
+            64 => Call::Write { size: 4, address: UNIT + timer::SCALER_RELOAD, value: 999 },
+            65..=69 => Call::Offer { port: self.random.below(6) as u8, byte: self.random.byte() },
+            70 => Call::Skip { limit: 1 << 40 },
+            _ => Call::Advance { cycles: 1 + self.random.below(200) },
+        };
+        self.push(call);
+    }
+}

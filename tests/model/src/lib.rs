@@ -1,0 +1,15 @@
+//! An independent test model of one GR712RC board: six APBUARTs, one GPTIMER unit, their bus
+//! windows, and the script runner. Written from the scope paper (01), its sources and the list of
+//! its readings; quotations in comments are sentences of 01.
+//!
+//! The program holds one machine that starts at reset and changes it by accepted calls only, so no
+//! state of it is ever ill formed and number 9 cannot arise.
+
+pub mod board;
+pub mod generator;
+pub mod random;
+pub mod refusal;
+pub mod script;
+pub mod slow;
+pub mod timer;
+pub mod uart;

@@ -1,0 +1,74 @@
+//! The slow run's time: one cycle after another, by the one-cycle rule as it is written. It shares
+//! the registers with module `timer`, but none of its arithmetic.
+
+use crate::timer::{Passed, TimerUnit, CH, EN, IE, IP, RS, TIMERS};
+
+/// One cycle; tells which timers pulsed.
+pub fn cycle(unit: &mut TimerUnit) -> [bool; TIMERS] {
+    let mut pulsed = [false; TIMERS];
+    // "if the prescaler value is 0 there is a tick, and the value becomes the reload, or 0xFFFF if
+    // the reload is 0. Otherwise it falls by 1."
+    if unit.scaler > 0 {
+        unit.scaler -= 1;
+        return pulsed;
+    }
+    unit.scaler = unit.scaler_reload;
+    if unit.scaler == 0 {
+        unit.scaler = 0xFFFF;
+    }
+    // "One tick serves timers 1 to 4 in order."
+    let mut previous_underflowed = false;
+    for n in 1..=TIMERS {
+        let timer = &mut unit.timers[n - 1];
+        let enabled = timer.control & EN != 0;
+        let chained = timer.control & CH != 0 && n != 1;
+        let counts = enabled && (!chained || previous_underflowed);
+        previous_underflowed = false;
+        if !counts {
+            continue;
+        }
+        // "the counter falls by 1; a counter at 0 goes to 0xFFFFFFFF"
+        timer.counter = if timer.counter == 0 { 0xFFFF_FFFF } else { timer.counter - 1 };
+        // "If the new number is 0 it is an underflow: IP is set; with RS the counter takes the
+        // reload, without it EN is cleared; with IE there is one pulse, whether or not IP was set
+        // already."
+        if timer.counter == 0 {
+            previous_underflowed = true;
+            timer.control |= IP;
+            if timer.control & RS != 0 {
+                timer.counter = timer.reload;
+            } else {
+                timer.control &= !EN;
+            }
+            pulsed[n - 1] = timer.control & IE != 0;
+        }
+    }
+    pulsed
+}
+
+/// "An advance does one cycle as often as its span says."
+pub fn advance(unit: &mut TimerUnit, cycles: u64) -> Passed {
+    let mut passed = Passed::default();
+    while passed.cycles < cycles {
+        step(unit, &mut passed);
+    }
+    passed
+}
+
+/// "A skip does one cycle after another while none had a pulse of any timer and the limit isn't
+/// reached."
+pub fn skip(unit: &mut TimerUnit, limit: u64) -> Passed {
+    let mut passed = Passed::default();
+    while passed.pulses == [0; TIMERS] && passed.cycles < limit {
+        step(unit, &mut passed);
+    }
+    passed
+}
+
+fn step(unit: &mut TimerUnit, passed: &mut Passed) {
+    let pulsed = cycle(unit);
+    passed.cycles += 1;
+    for (count, pulsed) in passed.pulses.iter_mut().zip(pulsed) {
+        *count += u64::from(pulsed);
+    }
+}

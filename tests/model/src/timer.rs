@@ -1,0 +1,231 @@
+//! GPTIMER unit: a prescaler and four timers. Time passes by division; module `slow` has the single
+//! cycles.
+
+pub const SCALER: u32 = 0x00;
+pub const SCALER_RELOAD: u32 = 0x04;
+pub const CONFIG: u32 = 0x08;
+/// Offsets within the block of timer n, which stands at n times `TIMER_STRIDE`.
+pub const COUNTER: u32 = 0x0;
+pub const RELOAD: u32 = 0x4;
+pub const CONTROL: u32 = 0x8;
+pub const TIMER_STRIDE: u32 = 0x10;
+
+pub const TIMERS: usize = 4;
+
+/// Control bits.
+pub const EN: u32 = 1 << 0;
+pub const RS: u32 = 1 << 1;
+pub const LD: u32 = 1 << 2;
+pub const IE: u32 = 1 << 3;
+pub const IP: u32 = 1 << 4;
+pub const CH: u32 = 1 << 5;
+const CONTROL_WRITABLE: u32 = EN | RS | IE | CH;
+
+/// CONFIG's fixed fields: SI, interrupt 8, four timers.
+const CONFIG_FIXED: u32 = 0x144;
+const CONFIG_DF: u32 = 1 << 9;
+
+/// What an advance or a skip did: the cycles passed and each timer's pulses in them.
+#[derive(Clone, Copy, Debug, Default, PartialEq, Eq)]
+pub struct Passed {
+    pub cycles: u64,
+    pub pulses: [u64; TIMERS],
+}
+
+#[derive(Clone, Debug, PartialEq, Eq)]
+pub struct Timer {
+    pub counter: u32,
+    pub reload: u32,
+    pub control: u32,
+}
+
+#[derive(Clone, Debug, PartialEq, Eq)]
+pub struct TimerUnit {
+    pub scaler: u16,
+    pub scaler_reload: u16,
+    pub df: bool,
+    pub timers: [Timer; TIMERS],
+}
+
+/// Counts until a counter reaches 0. From 0 it first "goes to 0xFFFFFFFF", so it takes 2^32 of
+/// them.
+fn counts_to_zero(counter: u32) -> u64 {
+    match counter {
+        0 => 1 << 32,
+        _ => u64::from(counter),
+    }
+}
+
+impl Timer {
+    const RESET: Timer = Timer { counter: 0, reload: 0, control: 0 };
+
+    fn has(&self, bits: u32) -> bool {
+        self.control & bits == bits
+    }
+
+    fn read(&self, register: u32) -> u32 {
+        match register {
+            COUNTER => self.counter,
+            RELOAD => self.reload,
+            CONTROL => self.control,
+            _ => 0,
+        }
+    }
+
+    fn write(&mut self, register: u32, value: u32) {
+        match register {
+            COUNTER => self.counter = value,
+            RELOAD => self.reload = value,
+            CONTROL => {
+                // "A 1 in bit 4 clears IP, a 0 keeps it."
+                self.control = value & CONTROL_WRITABLE | self.control & IP & !value;
+                // "A 1 in bit 2 copies reload to counter."
+                if value & LD != 0 {
+                    self.counter = self.reload;
+                }
+            }
+            _ => {}
+        }
+    }
+
+    /// Is offered a number of counts, takes them if enabled, and returns how often it underflowed.
+    fn count(&mut self, counts: u64) -> u64 {
+        if !self.has(EN) {
+            return 0;
+        }
+        let first = counts_to_zero(self.counter);
+        if counts < first {
+            self.counter = self.counter.wrapping_sub(counts as u32);
+            return 0;
+        }
+        self.control |= IP;
+        if !self.has(RS) {
+            // The rest of the counts meets a disabled timer.
+            self.counter = 0;
+            self.control &= !EN;
+            return 1;
+        }
+        let period = counts_to_zero(self.reload);
+        let rest = counts - first;
+        self.counter = self.reload.wrapping_sub((rest % period) as u32);
+        1 + rest / period
+    }
+
+    /// The count at which the `nth` underflow from now comes (`nth` is 1 or more); none if it never
+    /// comes or lies beyond 64 bits.
+    fn count_of_underflow(&self, nth: u64) -> Option<u64> {
+        if !self.has(EN) || nth > 1 && !self.has(RS) {
+            return None;
+        }
+        let periods = counts_to_zero(self.reload).checked_mul(nth - 1)?;
+        counts_to_zero(self.counter).checked_add(periods)
+    }
+}
+
+impl TimerUnit {
+    /// "prescaler both 0xFFFF; DF 0; timers 1 to 3 all 0; timer 4 control 0x09, counter and reload
+    /// 0xFFFF"
+    pub const RESET: TimerUnit = TimerUnit {
+        scaler: 0xFFFF,
+        scaler_reload: 0xFFFF,
+        df: false,
+        timers: [
+            Timer::RESET,
+            Timer::RESET,
+            Timer::RESET,
+            Timer { counter: 0xFFFF, reload: 0xFFFF, control: EN | IE },
+        ],
+    };
+
+    /// Reads the word at an offset; one without a register "reads 0".
+    pub fn read(&self, offset: u32) -> u32 {
+        match (offset / TIMER_STRIDE, offset % TIMER_STRIDE) {
+            (0, SCALER) => u32::from(self.scaler),
+            (0, SCALER_RELOAD) => u32::from(self.scaler_reload),
+            (0, CONFIG) => CONFIG_FIXED | if self.df { CONFIG_DF } else { 0 },
+            (n @ 1..=4, register) => self.timers[n as usize - 1].read(register),
+            _ => 0,
+        }
+    }
+
+    /// Writes the word at an offset; one without a register "ignores writes".
+    pub fn write(&mut self, offset: u32, value: u32) {
+        match (offset / TIMER_STRIDE, offset % TIMER_STRIDE) {
+            (0, SCALER) => self.scaler = value as u16,
+            (0, SCALER_RELOAD) => self.scaler_reload = value as u16,
+            (0, CONFIG) => self.df = value & CONFIG_DF != 0,
+            (n @ 1..=4, register) => self.timers[n as usize - 1].write(register, value),
+            _ => {}
+        }
+    }
+
+    /// Passes a number of cycles.
+    pub fn advance(&mut self, cycles: u64) -> Passed {
+        let mut passed = Passed { cycles, pulses: [0; TIMERS] };
+        let ticks = self.pass_prescaler(cycles);
+        if ticks == 0 {
+            return passed;
+        }
+        // "An enabled timer counts if CH is 0, or if timer n-1 underflowed in this same tick. Timer
+        // 1 ignores CH." So a timer's counts are all ticks, or as many as timer n-1 has underflows
+        // in them.
+        let mut underflows = ticks;
+        for (timer, pulses) in self.timers.iter_mut().zip(&mut passed.pulses) {
+            let counts = if timer.has(CH) { underflows } else { ticks };
+            underflows = timer.count(counts);
+            if timer.has(IE) {
+                *pulses = underflows;
+            }
+        }
+        passed
+    }
+
+    /// Passes "the fewest cycles, one or more, whose last has a pulse", or the limit if none is
+    /// within it.
+    pub fn skip(&mut self, limit: u64) -> Passed {
+        let cycles = self.cycles_to_pulse().map_or(limit, |cycles| cycles.min(limit));
+        self.advance(cycles)
+    }
+
+    /// Cycles between ticks: a tick sets the value to "the reload, or 0xFFFF if the reload is 0",
+    /// and the next one is in the cycle that finds 0.
+    fn prescaler_period(&self) -> u64 {
+        match self.scaler_reload {
+            0 => 0x1_0000,
+            reload => u64::from(reload) + 1,
+        }
+    }
+
+    /// Lets the prescaler pass a number of cycles and returns the ticks among them.
+    fn pass_prescaler(&mut self, cycles: u64) -> u64 {
+        let value = u64::from(self.scaler);
+        if cycles <= value {
+            self.scaler -= cycles as u16;
+            return 0;
+        }
+        let period = self.prescaler_period();
+        let after_first = cycles - (value + 1);
+        self.scaler = (period - 1 - after_first % period) as u16;
+        1 + after_first / period
+    }
+
+    /// The first cycle, counted from 1, with a pulse; none if there is none within 64 bits.
+    fn cycles_to_pulse(&self) -> Option<u64> {
+        let with_interrupt = (0..TIMERS).filter(|&index| self.timers[index].has(IE));
+        let tick = with_interrupt.filter_map(|index| self.tick_of_underflow(index, 1)).min()?;
+        let first = u64::from(self.scaler) + 1;
+        first.checked_add(self.prescaler_period().checked_mul(tick - 1)?)
+    }
+
+    /// The tick of a timer's `nth` underflow. A chained timer's k-th count comes with the k-th
+    /// underflow of the timer before it.
+    fn tick_of_underflow(&self, index: usize, nth: u64) -> Option<u64> {
+        let timer = &self.timers[index];
+        let count = timer.count_of_underflow(nth)?;
+        if index > 0 && timer.has(CH) {
+            self.tick_of_underflow(index - 1, count)
+        } else {
+            Some(count)
+        }
+    }
+}

@@ -1,0 +1,283 @@
+//! The bench examples of 01 and edge readings of its sentences, through the script interface.
+
+use std::io::{self, ErrorKind, Read};
+
+use model::script::{run, Call, Entry, Mode, ENTRY_LENGTH, LOG_HEADER, SCRIPT_HEADER};
+use model::timer::Passed;
+
+const UNIT: u32 = 0x8000_0300;
+const PORT0: u32 = 0x8000_0100;
+const DATA: u32 = PORT0;
+const STATUS: u32 = PORT0 + 4;
+const CONTROL: u32 = PORT0 + 8;
+
+fn read(address: u32) -> Call {
+    Call::Read { size: 4, address }
+}
+
+fn write(address: u32, value: u32) -> Call {
+    Call::Write { size: 4, address, value }
+}
+
+fn offer(byte: u8) -> Call {
+    Call::Offer { port: 0, byte }
+}
+
+fn advance(cycles: u64) -> Call {
+    Call::Advance { cycles }
+}
+
+fn skip(limit: u64) -> Call {
+    Call::Skip { limit }
+}
+
+/// Writes timer n's counter, reload and control.
+fn timer(n: u32, counter: u32, reload: u32, control: u32) -> [Call; 3] {
+    let base = UNIT + 0x10 * n;
+    [write(base, counter), write(base + 4, reload), write(base + 8, control)]
+}
+
+fn value(value: u32) -> Entry {
+    Entry { value, ..Entry::default() }
+}
+
+fn number(refusal: u8) -> Entry {
+    Entry { refusal, ..Entry::default() }
+}
+
+fn passed(cycles: u64, pulses: [u64; 4]) -> Entry {
+    Entry { passed: Passed { cycles, pulses }, ..Entry::default() }
+}
+
+fn at_level(entry: Entry) -> Entry {
+    Entry { levels: 1, ..entry }
+}
+
+fn log_of(script: impl Read, mode: Mode) -> Vec<u8> {
+    let mut log = Vec::new();
+    run(script, &mut log, mode).unwrap();
+    log
+}
+
+fn script_of(calls: &[Call]) -> Vec<u8> {
+    let mut script = SCRIPT_HEADER.to_vec();
+    calls.iter().for_each(|call| script.extend(call.encode()));
+    script
+}
+
+/// Checks the last log records of a script, in the single-cycle mode too if its spans are short.
+fn check(calls: &[Call], expected: &[Entry]) {
+    let script = script_of(calls);
+    let mut end = Vec::new();
+    expected.iter().for_each(|entry| end.extend(entry.encode()));
+    let short =
+        |call: &Call| !matches!(call, Call::Advance { cycles: n } | Call::Skip { limit: n } if *n > 1 << 20);
+    let modes = [Mode::Arithmetic, Mode::SingleCycle];
+    for mode in modes.into_iter().take(if calls.iter().all(short) { 2 } else { 1 }) {
+        let log = log_of(&script[..], mode);
+        assert_eq!(log.len(), LOG_HEADER.len() + calls.len() * ENTRY_LENGTH);
+        assert_eq!(log[log.len() - end.len()..], end, "{mode:?} {calls:X?}");
+    }
+}
+
+#[test]
+fn timer_examples() {
+    let quiet = [0; 4];
+    check(&[advance(65535), read(UNIT), read(UNIT + 0x40)], &[passed(65535, quiet), value(0), value(0xFFFF)]);
+    check(&[advance(65536), read(UNIT + 0x40)], &[passed(65536, quiet), value(0xFFFE)]);
+
+    let timer4 = [read(UNIT + 0x40), read(UNIT + 0x48)];
+    let last = passed(4_294_901_760, [0, 0, 0, 1]);
+    check(&[&[skip(u64::MAX)], &timer4[..]].concat(), &[last, value(0), value(0x18)]);
+    let before = passed(4_294_901_759, quiet);
+    check(&[&[skip(4_294_901_759)], &timer4[..]].concat(), &[before, value(1), value(0x09)]);
+
+    let prescaler = [write(UNIT, 0), write(UNIT + 4, 3)];
+    let periodic = [&prescaler[..], &timer(1, 2, 2, 0x0B)].concat();
+    for (cycles, pulses, counter) in [(12, 1, 1), (13, 2, 2)] {
+        let calls = [&periodic[..], &[advance(cycles), read(UNIT + 0x10)]].concat();
+        check(&calls, &[passed(cycles, [pulses, 0, 0, 0]), value(counter)]);
+    }
+
+    let chained = [&prescaler[..], &timer(1, 2, 2, 0x03), &timer(2, 3, 3, 0x2B)].concat();
+    let calls = [&chained[..], &[skip(100), read(UNIT + 0x28)]].concat();
+    check(&calls, &[passed(21, [0, 1, 0, 0]), value(0x3B)]);
+    check(&[&chained[..], &[skip(20)]].concat(), &[passed(20, quiet)]);
+
+    // Control 0x1B after the first pulse.
+    for (written, left) in [(0x0B, 0x1B), (0x1B, 0x0B)] {
+        let control = UNIT + 0x18;
+        let calls =
+            [&periodic[..], &[advance(12), read(control), write(control, written), read(control)]].concat();
+        check(&calls, &[value(0x1B), value(0), value(left)]);
+    }
+}
+
+#[test]
+fn serial_examples() {
+    check(&[write(CONTROL, 1), offer(7), read(STATUS)], &[value(0x8400_0087)]);
+    let eight = [&[write(CONTROL, 1)][..], &[offer(7); 8], &[read(STATUS), offer(7)]].concat();
+    check(&eight, &[value(0xA000_0087), number(8)]);
+
+    let calls = [write(CONTROL, 5), offer(7), read(DATA), read(STATUS), write(CONTROL, 5)];
+    let empty = at_level(value(0x8000_0086));
+    check(&calls, &[number(0), at_level(number(0)), at_level(value(7)), empty, number(0)]);
+}
+
+#[test]
+fn refusals_of_accesses() {
+    let table = [
+        (4, 0x8000_01FE, 3),
+        (2, 0x8000_0101, 4),
+        (1, 0x8000_01FF, 5),
+        (4, 0x8000_0200, 2),
+        (3, 0x8000_0200, 1),
+        // Sizes are judged first, wherever the address lies.
+        (0, 0x8000_0100, 1),
+        (255, 0xFFFF_FFFF, 1),
+        // "The address" is the first byte's, and so is "its window".
+        (4, 0x8000_00FE, 2),
+        (4, 0x8010_01FE, 3),
+        (2, 0x8000_01FF, 3),
+        (4, 0x8010_05FD, 3),
+        (4, 0xFFFF_FFFE, 2),
+        (4, 0x8010_0600, 2),
+        (2, 0x8000_0100, 5),
+        (4, 0x8000_0102, 4),
+        // Word offsets without a register.
+        (4, 0x8000_01FC, 0),
+        (4, 0x8000_030C, 0),
+        (4, 0x8000_0350, 0),
+    ];
+    for (size, address, refusal) in table {
+        let (read, write) = (Call::Read { size, address }, Call::Write { size, address, value: u32::MAX });
+        check(&[write, read], &[number(refusal); 2]);
+    }
+}
+
+#[test]
+fn serial_readings() {
+    for (port, refusal) in [(6, 6), (255, 6), (5, 7)] {
+        check(&[Call::Offer { port, byte: 1 }], &[number(refusal)]);
+    }
+    // A full queue with RE off is 7; RE off keeps the queue, and a DATA read then takes nothing.
+    let full = [&[write(CONTROL, 1)][..], &[offer(7); 8], &[write(CONTROL, 0)]].concat();
+    let calls = [&full[..], &[offer(1), read(DATA), read(STATUS)]].concat();
+    check(&calls, &[number(7), value(0), value(0xA000_0087)]);
+    // RE plays no part in the level, nor does TE.
+    check(&[&full[..], &[write(CONTROL, 4)]].concat(), &[at_level(number(0))]);
+    check(&[write(CONTROL, 8), read(CONTROL)], &[at_level(number(0)), at_level(value(0x8000_0008))]);
+    check(&[write(CONTROL, 8), Call::Reset], &[number(0)]);
+    // Emitted bytes, and the drop of one with TE off.
+    let emitted = |byte| Entry { emitted: Some(byte), ..Entry::default() };
+    check(&[write(DATA, 65), write(CONTROL, 2), write(DATA, 0xFF00)], &[number(0), number(0), emitted(0)]);
+    check(&[write(CONTROL + 4, 0x1FF), read(CONTROL + 4), write(STATUS, 1)], &[value(0xFF), number(0)]);
+}
+
+#[test]
+fn timer_readings() {
+    let quiet = [0; 4];
+    // Registers keep what they can hold.
+    check(&[write(UNIT, 0x1_2345), read(UNIT)], &[value(0x2345)]);
+    check(&[write(UNIT + 8, u32::MAX), read(UNIT + 8)], &[value(0x344)]);
+    check(&[write(UNIT + 0x18, 0xFFFF_FFFE), read(UNIT + 0x18)], &[value(0x2A)]);
+    // LD loads whatever EN is.
+    let calls = [&timer(2, 1, 9, 4)[..], &[read(UNIT + 0x20), read(UNIT + 0x28)]].concat();
+    check(&calls, &[value(9), value(0)]);
+    // Prescaler reload 0 is a period of 65536, but value 0 ticks in the next cycle.
+    let prescaler = [write(UNIT, 0), write(UNIT + 4, 0)];
+    let calls = [&prescaler[..], &timer(1, 2, 2, 0x0B), &[skip(1 << 20), read(UNIT)]].concat();
+    check(&calls, &[passed(65537, [1, 0, 0, 0]), value(0xFFFF)]);
+    // Timer 1 ignores CH; a limit of 0 passes nothing; a pulse at the limit counts. (Timer 4, which
+    // runs at reset, is switched off.)
+    let prescaler = [write(UNIT, 0), write(UNIT + 4, 1), write(UNIT + 0x48, 0)];
+    let calls = [&prescaler[..], &timer(1, 1, 1, 0x2B), &[skip(0), skip(1), advance(u64::MAX)]].concat();
+    check(&calls, &[passed(0, quiet), passed(1, [1, 0, 0, 0]), passed(u64::MAX, [(1 << 63) - 1, 0, 0, 0])]);
+    // Reload 0 with RS: 2^32 counts to the next underflow. A one-shot stays at 0 and underflows
+    // once.
+    let calls = [&prescaler[..], &timer(1, 1, 0, 0x0B), &[skip(1), skip(u64::MAX)]].concat();
+    check(&calls, &[passed(1, [1, 0, 0, 0]), passed(1 << 33, [1, 0, 0, 0])]);
+    let calls =
+        [&prescaler[..], &timer(1, 1, 5, 0x09), &[advance(u64::MAX), skip(u64::MAX), read(UNIT + 0x10)]]
+            .concat();
+    check(&calls, &[passed(u64::MAX, [1, 0, 0, 0]), passed(u64::MAX, quiet), value(0)]);
+    // An underflow without IE sets IP and ends no skip.
+    let calls = [&prescaler[..], &timer(1, 1, 1, 0x03), &[skip(1000), read(UNIT + 0x18)]].concat();
+    check(&calls, &[passed(1000, quiet), value(0x13)]);
+}
+
+#[test]
+fn files() {
+    let whole = b"\x41\x50\x53\x00\x01\x01\x04\x00\x00\x80\x00\x03\x08\0\0\0\0\0\0\0\0";
+    let log = [b"\x41\x50\x4C\x00\x01\x00\x00\x00\x00\x00\x00\x01\x44", &[0; 40][..]].concat();
+    assert_eq!(log_of(&whole[..], Mode::Arithmetic), log);
+
+    // Every place of a log record: a byte emitted at level 1, and a skip's cycles and pulses.
+    let calls =
+        [write(CONTROL, 10), write(DATA, 0x3141), write(UNIT, 0x102), write(UNIT + 0x40, 1), skip(0x10203)];
+    let log = log_of(&script_of(&calls)[..], Mode::Arithmetic);
+    let (emission, last) = (&log[5 + 48..][..48], &log[5 + 4 * 48..]);
+    assert_eq!(emission, [&[0, 1, 0x41, 1][..], &[0; 44]].concat());
+    assert_eq!(last, [&[0, 0, 0, 1, 0, 0, 0, 0, 0, 0, 0, 0, 0, 0, 1, 3][..], &[0; 31], &[1]].concat());
+
+    let headers: [(&[u8], &[u8]); 10] = [
+        (b"", b"refused 11\n"),
+        (b"APS\x00", b"refused 11\n"),
+        (b"APL\x00\x01", b"refused 11\n"),
+        (b"APL\x00\x02", b"refused 11\n"),
+        (b"aPS\x00\x01", b"refused 11\n"),
+        (b"APS\x00\x02", b"refused 12\n"),
+        (b"APS\x01\x01", b"refused 12\n"),
+        (b"APS\x00\x00\x00", b"refused 12\n"),
+        (b"APS\x00\x01", b"APL\x00\x01"),
+        (b"APS\x02\x01 and more", b"refused 12\n"),
+    ];
+    for (script, log) in headers {
+        assert_eq!(log_of(script, Mode::Arithmetic), log, "{script:?}");
+    }
+}
+
+#[test]
+fn malformed_records_and_tails() {
+    let calls = [read(CONTROL), write(CONTROL, 0), offer(1), advance(1), skip(1), Call::Reset];
+    let blanks = [(2, 3, 8, 15), (2, 3, 8, 11), (3, 3, 4, 15), (1, 3, 4, 7), (1, 3, 4, 7), (1, 3, 4, 15)];
+    for (call, (a, b, c, d)) in calls.into_iter().zip(blanks) {
+        for index in 0..16 {
+            let mut script = script_of(&[write(CONTROL, 8), call, read(CONTROL)]);
+            script[5 + 16 + index] ^= 0x40;
+            let log = log_of(&script[..], Mode::Arithmetic);
+            let malformed = index == 0 || (a..=b).contains(&index) || (c..=d).contains(&index);
+            assert_eq!(log[5 + 48] == 10, malformed, "{call:?} byte {index}");
+            if malformed {
+                let after = [at_level(number(10)).encode(), at_level(value(0x8000_0008)).encode()].concat();
+                assert_eq!(log[5 + 48..], after);
+            }
+        }
+    }
+    for length in 1..16 {
+        let script = [&script_of(&[write(CONTROL, 8)])[..], &Call::Reset.encode()[..length]].concat();
+        assert_eq!(log_of(&script[..], Mode::Arithmetic)[5 + 48..], at_level(number(10)).encode());
+    }
+}
+
+/// Gives one byte at a time, each after an interrupted read.
+struct Halting<'a>(&'a [u8], bool);
+
+impl Read for Halting<'_> {
+    fn read(&mut self, buffer: &mut [u8]) -> io::Result<usize> {
+        self.1 = !self.1;
+        if self.1 {
+            return Err(ErrorKind::Interrupted.into());
+        }
+        let length = buffer.len().min(1);
+        self.0.read(&mut buffer[..length])
+    }
+}
+
+#[test]
+fn short_and_interrupted_reads() {
+    let script = [&script_of(&[advance(3); 5000])[..], &[6; 5]].concat();
+    let log = log_of(Halting(&script, false), Mode::Arithmetic);
+    assert_eq!(log.len(), 5 + 5001 * 48);
+    assert_eq!(log, log_of(&script[..], Mode::Arithmetic));
+}

@@ -1,0 +1,89 @@
+//! The timer unit's arithmetic against single cycles, on random units.
+
+use model::random::Random;
+use model::slow;
+use model::timer::{Passed, Timer, TimerUnit};
+
+fn scaler(random: &mut Random) -> u16 {
+    match random.below(8) {
+        0 => 0,
+        1 => 0xFFFF,
+        2 => random.word() as u16,
+        _ => random.below(5) as u16,
+    }
+}
+
+fn counter(random: &mut Random) -> u32 {
+    match random.below(8) {
+        0 => 0,
+        1 => u32::MAX - random.below(2) as u32,
+        2 => random.word(),
+        _ => 1 + random.below(5) as u32,
+    }
+}
+
+fn unit(random: &mut Random) -> TimerUnit {
+    let timers = [(); 4].map(|()| Timer {
+        counter: counter(random),
+        reload: counter(random),
+        control: random.word() & 0x3B | random.pick(&[0, 1, 1]),
+    });
+    TimerUnit { scaler: scaler(random), scaler_reload: scaler(random), df: false, timers }
+}
+
+type Pass = fn(&mut TimerUnit, u64) -> Passed;
+
+#[test]
+fn short_spans() {
+    let mut random = Random::new(1);
+    for _ in 0..20_000 {
+        let start = unit(&mut random);
+        let span = random.below(400);
+        let calls: [(Pass, Pass); 2] = [(TimerUnit::advance, slow::advance), (TimerUnit::skip, slow::skip)];
+        for (fast, slow) in calls {
+            let (mut a, mut b) = (start.clone(), start.clone());
+            assert_eq!(fast(&mut a, span), slow(&mut b, span), "{start:X?} {span}");
+            assert_eq!(a, b, "{start:X?} {span}");
+        }
+    }
+}
+
+fn any_span(random: &mut Random) -> u64 {
+    random.next_u64() >> random.below(64)
+}
+
+/// One cycle more than a span of any length is that span and then a single cycle. With
+/// `short_spans` this carries the single cycle over to every span.
+#[test]
+fn long_advances() {
+    let mut random = Random::new(2);
+    for _ in 0..200_000 {
+        let start = unit(&mut random);
+        let span = any_span(&mut random).min(u64::MAX - 1);
+        let (mut a, mut b) = (start.clone(), start.clone());
+        let longer = a.advance(span + 1);
+        let mut shorter = b.advance(span);
+        for (count, pulsed) in shorter.pulses.iter_mut().zip(slow::cycle(&mut b)) {
+            *count += u64::from(pulsed);
+        }
+        assert_eq!((longer.cycles, longer.pulses), (span + 1, shorter.pulses), "{start:X?} {span}");
+        assert_eq!(a, b, "{start:X?} {span}");
+    }
+}
+
+/// A skip has no pulse before its last cycle, and stops short of its limit at a pulse only.
+#[test]
+fn long_skips() {
+    let mut random = Random::new(3);
+    for _ in 0..200_000 {
+        let start = unit(&mut random);
+        let limit = any_span(&mut random).max(1);
+        let (mut a, mut b) = (start.clone(), start.clone());
+        let skipped = a.skip(limit);
+        assert!((1..=limit).contains(&skipped.cycles), "{start:X?} {limit}");
+        assert_eq!(b.advance(skipped.cycles - 1).pulses, [0; 4], "{start:X?} {limit}");
+        assert_eq!(slow::cycle(&mut b).map(u64::from), skipped.pulses, "{start:X?} {limit}");
+        assert!(skipped.cycles == limit || skipped.pulses != [0; 4], "{start:X?} {limit}");
+        assert_eq!(a, b, "{start:X?} {limit}");
+    }
+}
