@@ -1,7 +1,7 @@
 // Lines of text for the programs that play examples: a call and its numbers, in hexadecimal.
-ghost use Prim.Native.Nat.{_<_, _≤_, _%_};
+ghost use Prim.Native.Nat.{_≤_, _%_};
 ghost use mathlib.Core.Path.{_≡_};
-ghost use lib.ListN.{length};
+ghost use Rattle.lines.specs.Line as lines;
 
 pub struct Line {
     // The byte that the line begins with; 0 where it is empty.
@@ -15,9 +15,9 @@ pub struct Line {
 }
 
 impl Line {
-    // The line that begins at `from`. The next begins further on, so that a loop over the lines ends.
+    // The line that begins at `from`.
     pub fn read(text: &[u8], from: usize) -> Self
-        ensures { λ r. ⌜ (from < length (now (text .entry)) → from < r .next) ⌝ }
+        ensures { λ r. ⌜ r ≡ lines.lineAt (now (text .entry)) from ⌝ }
     {
         let mut line = Line {
             call: 0,
@@ -40,7 +40,7 @@ impl Line {
     }
 
     fn with(mut self, byte: u8) -> Self
-        ensures { λ r. ⌜ r .next ≡ self .next ⌝ }
+        ensures { λ r. ⌜ r ≡ lines.joined byte self ⌝ }
     {
         if self.call == 0 {
             self.call = byte;
@@ -61,7 +61,8 @@ impl Line {
 
 // The number that a hexadecimal digit stands for; any other byte stands for one too, since no line is refused.
 fn digit(byte: u8) -> u64
-    ensures { λ r. ⌜ r ≤ 15 ⌝ }
+    ensures is { λ r. ⌜ r ≡ lines.digit byte ⌝ }
+    ensures within { λ r. ⌜ r ≤ 15 ⌝ }
 {
     if b'A' <= byte {
         return (byte as u64 % 32 + 9) % 16;

@@ -1,0 +1,2 @@
+-- What the contracts of this crate cite: how a line is read.
+pub mod Line
