@@ -4,13 +4,13 @@
 ghost use Prim.Native.Nat.{_≤_};
 ghost use lib.ListN.{length};
 use bus::machine::Machine;
-use bus::refusal::NOT_REFUSED;
 use libc::STDERR_FILENO;
 use libc::STDIN_FILENO;
 use libc::STDOUT_FILENO;
 use script::entry;
 use script::format;
 use script::format::Format;
+use script::format::Verdict;
 use script::record;
 use script::run::run_piece;
 
@@ -34,13 +34,16 @@ fn main() {
     if input.failed {
         return;
     }
-    let number = format::script_refusal(&header[..count]);
-    if number != NOT_REFUSED {
-        emit(&format::refusal_line(number));
-        return;
-    }
-    if emit(&format::log_header()) {
-        run();
+    let verdict = format::judge_script(&header[..count]);
+    match verdict {
+        Verdict::Refused(reason) => {
+            emit(&format::refusal_line(reason));
+        }
+        Verdict::Accepted => {
+            if emit(&format::log_header()) {
+                run();
+            }
+        }
     }
 }
 

@@ -1,4 +1,6 @@
--- Each call on a machine: paper 01, "Refusal numbers" with its order, and "The slow run".
+-- Each call on a machine: paper 01, "Refusal numbers" with its order, and "The slow run". The code's enum of calls says no more
+-- than the paper does, so the definitions are on that enum: "An access has a 32-bit address and a size in bytes." "Script records
+-- are such calls, a malformed one a refused call".
 pub mod Laws
 use Prim.Native.Nat.{ℕ, _+_, _-_, _%_}
 use mathlib.Core.Bool.{Bool, false, true, cond, not, _||_}
@@ -17,16 +19,8 @@ use Rattle.bus.specs.declared.board.Device.{Device}
 use Rattle.bus.specs.declared.board.Device.the-variants as device
 use Rattle.bus.specs.declared.board.Found.{Found}
 use Rattle.bus.specs.declared.board.Found.the-variants.{In, Nowhere}
-
--- "An access has a 32-bit address and a size in bytes." "Script records are such calls, a malformed one a refused call".
-pub data Call : Type 0 where
-  read : (address size : ℕ) → Call
-  write : (address size value : ℕ) → Call
-  offer : (port byte : ℕ) → Call
-  advance : (cycles : ℕ) → Call
-  skip : (limit : ℕ) → Call
-  reset : Call
-  malformed : Call
+use Rattle.bus.specs.declared.machine.Call.{Call}
+use Rattle.bus.specs.declared.machine.Call.the-variants.{Read, Write, Offer, Advance, Skip, Reset, Malformed}
 
 -- "No. | Given exactly when"
 infix 70 _when_
@@ -92,13 +86,13 @@ abbrev pub windowOf : ℕ → Machine → Found
 windowOf address m = board.windowAt address (m .board .windows)
 
 abbrev pub subject : Call → Machine → Subject
-subject (read address size) m = access address size (windowOf address m)
-subject (write address size value) m = access address size (windowOf address m)
-subject (offer n byte) m = byteFor n
-subject (advance cycles) m = other
-subject (skip limit) m = other
-subject reset m = other
-subject malformed m = unreadable
+subject (Read address size) m = access address size (windowOf address m)
+subject (Write address size value) m = access address size (windowOf address m)
+subject (Offer n byte) m = byteFor n
+subject (Advance cycles) m = other
+subject (Skip limit) m = other
+subject Reset m = other
+subject Malformed m = unreadable
 
 -- A device answers an access as its own definitions say.
 abbrev pub readDevice : Machine → Device → ℕ → Answer
@@ -118,18 +112,18 @@ reach reply m address Nowhere = accepted 0 m
 -- "An access, an offered byte and a reset do what the sections above say. An advance does one cycle as often as its span
 -- says. A skip does one cycle after another while none had a pulse of any timer and the limit isn't reached." A malformed
 -- record is always refused.
-abbrev pub done : Call → Machine → Answer
-done (read address size) m = reach (readDevice m) m address (windowOf address m)
-done (write address size value) m = reach (writeDevice value m) m address (windowOf address m)
-done (offer n byte) m = ofPort n (uart.offer byte (portAt n m)) m
-done (advance cycles) m = ofSpan (gpt.advance cycles (m .unit)) m
-done (skip limit) m = ofSpan (gpt.skip limit (m .unit)) m
-done reset m = accepted 0 (resetState (m .board))
-done malformed m = accepted 0 m
+abbrev pub execute : Call → Machine → Answer
+execute (Read address size) m = reach (readDevice m) m address (windowOf address m)
+execute (Write address size value) m = reach (writeDevice value m) m address (windowOf address m)
+execute (Offer n byte) m = ofPort n (uart.offer byte (portAt n m)) m
+execute (Advance cycles) m = ofSpan (gpt.advance cycles (m .unit)) m
+execute (Skip limit) m = ofSpan (gpt.skip limit (m .unit)) m
+execute Reset m = accepted 0 (resetState (m .board))
+execute Malformed m = accepted 0 m
 
 -- "A call refused by the table gets the refusal's answer and changes nothing."
-abbrev pub judged : ℕ → Answer → Machine → Answer
-judged number a m = cond (eqb number notRefused) a (refused number m)
+abbrev pub unlessRefused : ℕ → Answer → Machine → Answer
+unlessRefused number a m = cond (eqb number notRefused) a (refused number m)
 
 unfoldable pub answer : Call → Machine → Answer
-answer call m = judged (refusal (subject call m) m) (done call m) m
+answer call m = unlessRefused (refusal (subject call m) m) (execute call m) m

@@ -1,32 +1,36 @@
--- Lists of calls of which some advances are cut.
+-- Lists of calls of which some advances are cut: demand 3 (README.md), "Time may be cut anywhere".
 pub mod Laws
 use Prim.Native.Nat.{ℕ, _+_}
+use mathlib.Core.Path.{_≡_}
 use mathlib.Core.List.{List, [], _∷_, _++_, map}
-use lib.ListN.{length, take, drop}
+use lib.ListN.{length}
 use Rattle.devices.specs.Gptimer.{addPulses}
-use Rattle.bus.specs.Machine.{Answer}
-use Rattle.bus.specs.Call.{Call, advance}
+use Rattle.bus.specs.Machine.{Machine, Answer}
+use Rattle.bus.specs.Call.{answer}
+use Rattle.bus.specs.declared.machine.Call.{Call}
+use Rattle.bus.specs.declared.machine.Call.the-variants.{Advance}
 
--- Each item of such a list is a call as it is, or the spans that an advance is cut into.
+-- Each item of such a list is a call as it is, or the spans that an advance is cut into: any that add up to its own, and for an
+-- advance of 0 none at all.
 pub data Item : Type 0 where
-  whole : Call → Item
-  cut : (span : ℕ) (spans : List ℕ) → Item
+  kept : Call → Item
+  cut : (spans : List ℕ) → Item
 
-abbrev pub total : ℕ → List ℕ → ℕ
-total span [] = span
-total span (next ∷ spans) = span + total next spans
+abbrev pub total : List ℕ → ℕ
+total [] = 0
+total (span ∷ spans) = span + total spans
 
 abbrev pub uncutCall : Item → Call
-uncutCall (whole c) = c
-uncutCall (cut span spans) = advance (total span spans)
+uncutCall (kept c) = c
+uncutCall (cut spans) = Advance (total spans)
 
 abbrev pub uncutCalls : List Item → List Call
 uncutCalls es = map uncutCall es
 
 abbrev pub cutCalls : List Item → List Call
 cutCalls [] = []
-cutCalls (whole c ∷ es) = c ∷ cutCalls es
-cutCalls (cut span spans ∷ es) = (advance span ∷ map advance spans) ++ cutCalls es
+cutCalls (kept c ∷ es) = c ∷ cutCalls es
+cutCalls (cut spans ∷ es) = map Advance spans ++ cutCalls es
 
 -- Two spans, one after the other, as one: their cycles and each timer's pulses together, and the rest as the second left it.
 abbrev pub joined : Answer → Answer → Answer
@@ -42,14 +46,19 @@ joined a b =
       machine = b .machine;
     }
 
-abbrev pub allJoined : Answer → List Answer → Answer
-allJoined a [] = a
-allJoined a (b ∷ bs) = joined a (allJoined b bs)
+-- The answers to the spans of one advance as one, from the machine `m` on. No span at all is an advance of 0.
+abbrev pub together : (m : Machine) (spans : List Answer) → Answer
+together m [] = answer (Advance 0) m
+together m (a ∷ rest) = joined a (together (a .machine) rest)
 
--- The answers to the cut list put together: those to the spans of an advance become one, every other stays.
-abbrev pub rejoined : List Item → List Answer → List Answer
-rejoined [] rs = []
-rejoined (e ∷ es) [] = []
-rejoined (whole c ∷ es) (a ∷ rs) = a ∷ rejoined es rs
-rejoined (cut span spans ∷ es) (a ∷ rs) =
-    allJoined a (take (length spans) rs) ∷ rejoined es (drop (length spans) rs)
+-- The answers to the cut list, from the machine `m` on, put together as those to the uncut list: those to the spans of an advance
+-- become one, every other stays.
+pub data Rejoined : List Item → (m : Machine) (cut uncut : List Answer) → Type 0 where
+  end : {m : Machine} → Rejoined [] m [] []
+  unchanged :
+      {c : Call} {es : List Item} {m : Machine} {a : Answer} {rs ss : List Answer} → Rejoined es (a .machine) rs ss →
+      Rejoined (kept c ∷ es) m (a ∷ rs) (a ∷ ss)
+  put-together :
+      {spans : List ℕ} {es : List Item} {m : Machine} (parts : List Answer) {rs ss : List Answer} →
+      length parts ≡ length spans → Rejoined es (together m parts .machine) rs ss →
+      Rejoined (cut spans ∷ es) m (parts ++ rs) (together m parts ∷ ss)

@@ -8,8 +8,10 @@ use Rattle.devices.specs.Gptimer as gpt
 use Rattle.devices.specs.Gptimer.FromReset.{largest, oneLess, skip-from-reset, skip-one-less}
 use Rattle.bus.specs.Board.{gr712rc}
 use Rattle.bus.specs.Machine.{Machine, Answer, resetState, pulsesOf, allWell, levelsOf}
-use Rattle.bus.specs.Call.{Call, read, write, offer, advance, skip, refusal, answer}
+use Rattle.bus.specs.Call.{refusal, answer}
 use Rattle.bus.specs.SlowRun.{after}
+use Rattle.bus.specs.declared.machine.Call.{Call}
+use Rattle.bus.specs.declared.machine.Call.the-variants.{Read, Write, Offer, Advance, Skip}
 
 record Example : Type 0 where
   given : ℕ
@@ -27,10 +29,10 @@ abbrev next : Call → List Call → Answer
 next call calls = answer call (from calls)
 
 abbrev wordAt : ℕ → List Call → ℕ
-wordAt address calls = next (read address 4) calls .value
+wordAt address calls = next (Read address 4) calls .value
 
 abbrev store : ℕ → ℕ → Call
-store address value = write address 4 value
+store address value = Write address 4 value
 
 abbrev allPulses : Answer → ℕ
 allPulses a = pulsesOf 1 a + pulsesOf 2 a + pulsesOf 3 a + pulsesOf 4 a
@@ -46,52 +48,52 @@ chained = periodic 0x03 ++ (store 0x80000320 3 ∷ store 0x80000324 3 ∷ store 
 
 -- "Control 0x1B": timer 1 after its first pulse
 pending : List Call
-pending = periodic 0x0B ++ (advance 12 ∷ [])
+pending = periodic 0x0B ++ (Advance 12 ∷ [])
 
 -- bytes for port 0
 eight : List Call
-eight = offer 0 1 ∷ offer 0 2 ∷ offer 0 3 ∷ offer 0 4 ∷ offer 0 5 ∷ offer 0 6 ∷ offer 0 7 ∷ offer 0 8 ∷ []
+eight = Offer 0 1 ∷ Offer 0 2 ∷ Offer 0 3 ∷ Offer 0 4 ∷ Offer 0 5 ∷ Offer 0 6 ∷ Offer 0 7 ∷ Offer 0 8 ∷ []
 
 examples : List Example
 examples =
     -- "From reset, skip with the largest limit passes 4294901760; timer 4 pulses once, counter 0, control 0x18. One cycle
     -- less: counter 1, control 0x09."
-    next (skip largest) [] .cycles gives 4294901760 ∷
-    pulsesOf 4 (next (skip largest) []) gives 1 ∷
-    allPulses (next (skip largest) []) gives 1 ∷
-    wordAt 0x80000340 (skip largest ∷ []) gives 0 ∷
-    wordAt 0x80000348 (skip largest ∷ []) gives 0x18 ∷
-    wordAt 0x80000340 (skip oneLess ∷ []) gives 1 ∷
-    wordAt 0x80000348 (skip oneLess ∷ []) gives 0x09 ∷
+    next (Skip largest) [] .cycles gives 4294901760 ∷
+    pulsesOf 4 (next (Skip largest) []) gives 1 ∷
+    allPulses (next (Skip largest) []) gives 1 ∷
+    wordAt 0x80000340 (Skip largest ∷ []) gives 0 ∷
+    wordAt 0x80000348 (Skip largest ∷ []) gives 0x18 ∷
+    wordAt 0x80000340 (Skip oneLess ∷ []) gives 1 ∷
+    wordAt 0x80000348 (Skip oneLess ∷ []) gives 0x09 ∷
     -- "Advance 12: one pulse, counter 1." "Advance 13: two, counter 2."
-    pulsesOf 1 (next (advance 12) (periodic 0x0B)) gives 1 ∷
-    allPulses (next (advance 12) (periodic 0x0B)) gives 1 ∷
-    wordAt 0x80000310 (periodic 0x0B ++ (advance 12 ∷ [])) gives 1 ∷
-    pulsesOf 1 (next (advance 13) (periodic 0x0B)) gives 2 ∷
-    allPulses (next (advance 13) (periodic 0x0B)) gives 2 ∷
-    wordAt 0x80000310 (periodic 0x0B ++ (advance 13 ∷ [])) gives 2 ∷
+    pulsesOf 1 (next (Advance 12) (periodic 0x0B)) gives 1 ∷
+    allPulses (next (Advance 12) (periodic 0x0B)) gives 1 ∷
+    wordAt 0x80000310 (periodic 0x0B ++ (Advance 12 ∷ [])) gives 1 ∷
+    pulsesOf 1 (next (Advance 13) (periodic 0x0B)) gives 2 ∷
+    allPulses (next (Advance 13) (periodic 0x0B)) gives 2 ∷
+    wordAt 0x80000310 (periodic 0x0B ++ (Advance 13 ∷ [])) gives 2 ∷
     -- "Skip 100 passes 21, timer 2 control 0x3B." "Skip 20 passes 20, no pulse."
-    next (skip 100) chained .cycles gives 21 ∷
-    wordAt 0x80000328 (chained ++ (skip 100 ∷ [])) gives 0x3B ∷
-    next (skip 20) chained .cycles gives 20 ∷
-    allPulses (next (skip 20) chained) gives 0 ∷
+    next (Skip 100) chained .cycles gives 21 ∷
+    wordAt 0x80000328 (chained ++ (Skip 100 ∷ [])) gives 0x3B ∷
+    next (Skip 20) chained .cycles gives 20 ∷
+    allPulses (next (Skip 20) chained) gives 0 ∷
     -- "Control 0x1B: writing 0x0B leaves 0x1B; writing 0x1B leaves 0x0B."
     wordAt 0x80000318 pending gives 0x1B ∷
     wordAt 0x80000318 (pending ++ (store 0x80000318 0x0B ∷ [])) gives 0x1B ∷
     wordAt 0x80000318 (pending ++ (store 0x80000318 0x1B ∷ [])) gives 0x0B ∷
     -- "CONTROL 1, one byte: STATUS 0x84000087; eight bytes: 0xA0000087; the ninth is refused with 8."
-    wordAt 0x80000104 (store 0x80000108 1 ∷ offer 0 1 ∷ []) gives 0x84000087 ∷
+    wordAt 0x80000104 (store 0x80000108 1 ∷ Offer 0 1 ∷ []) gives 0x84000087 ∷
     wordAt 0x80000104 (store 0x80000108 1 ∷ eight) gives 0xA0000087 ∷
-    next (offer 0 9) (store 0x80000108 1 ∷ eight) .refusal gives 8 ∷
+    next (Offer 0 9) (store 0x80000108 1 ∷ eight) .refusal gives 8 ∷
     -- "CONTROL 5, one byte, DATA read: level still 1 until CONTROL is written."
-    next (read 0x80000100 4) (store 0x80000108 5 ∷ offer 0 1 ∷ []) .levels gives 1 ∷
-    next (store 0x80000108 5) (store 0x80000108 5 ∷ offer 0 1 ∷ read 0x80000100 4 ∷ []) .levels gives 0 ∷
+    next (Read 0x80000100 4) (store 0x80000108 5 ∷ Offer 0 1 ∷ []) .levels gives 1 ∷
+    next (store 0x80000108 5) (store 0x80000108 5 ∷ Offer 0 1 ∷ Read 0x80000100 4 ∷ []) .levels gives 0 ∷
     -- "Size 4 at 0x800001FE: 3. Size 2 at 0x80000101: 4. Size 1 at 0x800001FF: 5. Size 4 at 0x80000200: 2. Size 3 there: 1."
-    next (read 0x800001FE 4) [] .refusal gives 3 ∷
-    next (read 0x80000101 2) [] .refusal gives 4 ∷
-    next (read 0x800001FF 1) [] .refusal gives 5 ∷
-    next (read 0x80000200 4) [] .refusal gives 2 ∷
-    next (read 0x80000200 3) [] .refusal gives 1 ∷
+    next (Read 0x800001FE 4) [] .refusal gives 3 ∷
+    next (Read 0x80000101 2) [] .refusal gives 4 ∷
+    next (Read 0x800001FF 1) [] .refusal gives 5 ∷
+    next (Read 0x80000200 4) [] .refusal gives 2 ∷
+    next (Read 0x80000200 3) [] .refusal gives 1 ∷
     []
 
 checked : map (λ (e : Example). e .given) examples ≡ map (λ (e : Example). e .said) examples

@@ -3,7 +3,8 @@
 pub mod Laws
 use mathlib.Core.List.{List, [], _∷_}
 use Rattle.bus.specs.Machine.{Machine, Answer}
-use Rattle.bus.specs.Call.{Call, answer}
+use Rattle.bus.specs.Call.{answer}
+use Rattle.bus.specs.declared.machine.Call.{Call}
 
 -- "The slow run of demand 3 is fed a machine and the calls' arguments, and keeps that machine only."
 abbrev pub answers : List Call → Machine → List Answer

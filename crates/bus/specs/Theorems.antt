@@ -1,10 +1,10 @@
--- What is claimed of the calls on a machine, for the demands on the model (README.md). Most claims are about any answers and
--- machines that meet the calls' contracts (`Conforms`, View.antt), so about what the code promises; the last ones are about
--- the definitions. Assumes nothing.
+-- What is claimed of a single call on a machine, for the demands on the model (README.md); what is claimed of lists of calls, script
+-- records among them, stands in the scripts (Theorems.antt there). Most claims are about any answers and machines that meet the
+-- calls' contracts (`Conforms`, View.antt), so about what the code promises; the last ones are about the definitions. Assumes
+-- nothing.
 use Prim.Native.Nat.{ℕ, _<_}
 use mathlib.Core.Path.{_≡_, refl, sym, ap, _∙_}
 use mathlib.Core.Bool.{true, false, _&&_}
-use mathlib.Core.List.{List, [], _∷_, map}
 use native.Mathlib.Omega.{arith}
 use lib.Dec.{eqb, leb}
 use lib.ListN.{length, getD}
@@ -18,51 +18,22 @@ use Rattle.bus.specs.Board.{gr712rc, holds, allApart, allThere}
 use Rattle.bus.specs.Board.Laws.{one-window}
 use Rattle.bus.specs.Machine as bus
 use Rattle.bus.specs.Machine.{wellFormed}
-use Rattle.bus.specs.Call.{Call, skip, byteFor, table, refusal, windowOf, subject}
+use Rattle.bus.specs.Call.{byteFor, table, refusal, windowOf, subject}
 use Rattle.bus.specs.Call.Laws as laws
 use Rattle.bus.specs.Call.Laws.{noneGiven}
-use Rattle.bus.specs.SlowRun.{answers, after}
-use Rattle.bus.specs.Cuts.{Item, uncutCalls, cutCalls, rejoined}
-use Rattle.bus.specs.Cuts.Laws.{slow-cut}
 use Rattle.bus.specs.View.{machineOf, answerOf, Conforms}
 use Rattle.bus.specs.declared.board.Window.{Window}
 use Rattle.bus.specs.declared.board.Found.the-variants.{In}
 use Rattle.bus.specs.declared.machine.Machine.{Machine}
 use Rattle.bus.specs.declared.machine.Answer.{Answer}
-
--- A list of calls, each on the machine that the one before returned, with their answers and the last machine.
-pub data Trace : Machine → List Call → List Answer → Machine → Type 0 where
-  stop : {m : Machine} → Trace m [] [] m
-  step :
-      {m last : Machine} {c : Call} {cs : List Call} {a : Answer} {rs : List Answer} → Conforms m c a →
-      Trace (a .machine) cs rs last → Trace m (c ∷ cs) (a ∷ rs) last
-
--- Demand 3: every answer equals that of the slow run in single cycles. The answers to a list of calls and the last machine
--- are the slow run's, whatever the calls, refused ones included, and whatever the first machine.
-pub list-claim :
-    {m last : Machine} {cs : List Call} {rs : List Answer} → Trace m cs rs last →
-    (map answerOf rs ≡ answers cs (machineOf m)) × (machineOf last ≡ after cs (machineOf m))
-list-claim stop = (refl, refl)
-list-claim (step {a} h t) =
-    let rest = list-claim t in
-    rw (← h .answer) (ap {B = List bus.Answer} (λ others. answerOf a ∷ others) (rest .0), rest .1)
-
--- Demand 3: time may be cut anywhere. Replace any advances of a list, each by one or more spans that add up to its own, and
--- begin with an equal machine: every other answer and the last machine are those of the uncut list, and the spans' cycles
--- and each timer's pulses in them add up to the uncut advance's. (Each span's own answer is the slow run's, by the list
--- claim.)
-pub cut-claim :
-    (es : List Item) {m n last last' : Machine} {rs ss : List Answer} → machineOf m ≡ machineOf n →
-    Trace m (uncutCalls es) rs last → Trace n (cutCalls es) ss last' →
-    (map answerOf rs ≡ rejoined es (map answerOf ss)) × (machineOf last ≡ machineOf last')
-cut-claim es {m} e t u =
-    rw (list-claim t .0, list-claim u .0, list-claim t .1, list-claim u .1, ← e) (slow-cut es (machineOf m))
+use Rattle.bus.specs.declared.machine.Call.{Call}
+use Rattle.bus.specs.declared.machine.Call.the-variants.{Skip}
 
 -- "An idle skip takes a limit and passes the fewest cycles, one or more, whose last has a pulse; if there is none within
 -- the limit it passes the limit." It answers with a span of the timer unit of which this is true (`Least`, Gptimer/Laws.antt of
 -- the devices).
 pub skip-claim :
-    {m : Machine} {limit : ℕ} {a : Answer} → wellFormed (machineOf m) ≡ true → Conforms m (skip limit) a →
+    {m : Machine} {limit : ℕ} {a : Answer} → wellFormed (machineOf m) ≡ true → Conforms m (Skip limit) a →
     (e : Elapsed) × (answerOf a ≡ bus.ofSpan e (machineOf m)) × Least limit (m .unit) e
 skip-claim {m} {limit} w h =
     (gpt.skip limit (m .unit), h .answer ∙ laws.skip-well (machineOf m) w limit, skip-least limit (m .unit))

@@ -1,5 +1,6 @@
--- What of the code's structs counts, and the contract of each call on a machine. What does not count, and no definition
--- decides, are a queue's `head` and its places that hold no waiting byte.
+-- What of the code's structs counts, and the contract of each call on a machine. No definition decides, in a machine after an
+-- accepted call and in the one that `Machine::reset_state` makes, what none decides in its ports (Apbuart/View.antt of the devices): a
+-- queue's `head` and its places that hold no waiting byte. Every answer is the same whatever they are.
 use mathlib.Core.Path.{_≡_}
 use mathlib.Core.List.{map}
 use Rattle.devices.specs.Refusal.{notRefused}
@@ -10,7 +11,6 @@ use Rattle.bus.specs.Call as call
 use Rattle.bus.specs.declared.machine.Machine.{Machine}
 use Rattle.bus.specs.declared.machine.Answer.{Answer}
 use Rattle.bus.specs.declared.machine.Call.{Call}
-use Rattle.bus.specs.declared.machine.Call.the-variants.{Read, Write, Offer, Advance, Skip, Reset, Malformed}
 
 -- "The build is a model of one GR712RC board"
 abbrev pub machineOf : Machine → bus.Machine
@@ -29,18 +29,8 @@ answerOf a =
       machine = machineOf (a .machine);
     }
 
--- the call of the definitions that each of the code's is
-abbrev pub callOf : Call → call.Call
-callOf (Read address size) = call.read address size
-callOf (Write address size value) = call.write address size value
-callOf (Offer port byte) = call.offer port byte
-callOf (Advance cycles) = call.advance cycles
-callOf (Skip limit) = call.skip limit
-callOf Reset = call.reset
-callOf Malformed = call.malformed
-
 -- The answer `a` is what a call on the machine `m` answers. "A refusal returns the same machine": where the call is refused
 -- the machine comes back as `m`, in every field, and so does an ill-formed one, which "comes back alike in every field".
-pub record Conforms (m : Machine) (c : call.Call) (a : Answer) : Type 0 where
+pub record Conforms (m : Machine) (c : Call) (a : Answer) : Type 0 where
   pub answer : answerOf a ≡ call.answer c (machineOf m)
   pub same : (a .refusal ≡ notRefused → ⊥) → a .machine ≡ m

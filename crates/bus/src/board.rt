@@ -6,31 +6,31 @@ ghost use Prim.Native.Nat.{_+_, _-_};
 ghost use Rattle.bus.specs.Board as board;
 
 // What answers in a window.
-pub enum Device {
+pub(crate) enum Device {
     Port(u8),
     TimerUnit,
 }
 
-pub struct Window {
-    pub base: u32,
-    pub length: u32,
-    pub device: Device,
+pub(crate) struct Window {
+    pub(crate) base: u32,
+    pub(crate) length: u32,
+    pub(crate) device: Device,
 }
 
 // Where an address lies.
-pub enum Found {
+pub(crate) enum Found {
     In(Window),
     Nowhere,
 }
 
-pub struct Board {
+pub(crate) struct Board {
     // How many ports: they are 0 to one below this.
-    pub ports: u8,
-    pub windows: [Window; Board::WINDOWS],
+    pub(crate) ports: u8,
+    pub(crate) windows: [Window; Board::WINDOWS],
 }
 
 impl Window {
-    pub const LENGTH: u32 = 0x100;
+    pub(crate) const LENGTH: u32 = 0x100;
 
     // The first address behind the window, which may lie past the last 32-bit one.
     pub(crate) fn end(self) -> u64
@@ -62,9 +62,9 @@ impl Window {
 }
 
 impl Board {
-    pub const WINDOWS: usize = 7;
+    pub(crate) const WINDOWS: usize = 7;
 
-    pub const GR712RC: Board = Board {
+    pub(crate) const GR712RC: Board = Board {
         ports: 6,
         windows: [
             Window {

@@ -4,7 +4,8 @@ ghost use mathlib.Core.Path.{_≡_};
 ghost use Rattle.bus.specs.Machine as bus;
 ghost use Rattle.bus.specs.Call as call;
 ghost use Rattle.bus.specs.Board.{gr712rc};
-ghost use Rattle.bus.specs.View.{machineOf, answerOf, callOf, Conforms};
+ghost use Rattle.bus.specs.View.{machineOf, answerOf, Conforms};
+ghost use Rattle.bus.specs.declared.machine.Call.the-variants as calls;
 ghost use Rattle.devices.specs.Apbuart.View as uart;
 use crate::board::Board;
 use crate::board::Device;
@@ -130,7 +131,7 @@ impl Machine {
     // Ports 0 to 5.
     pub const PORTS: usize = 6;
 
-    pub const BOARD: Board = Board::GR712RC;
+    pub(crate) const BOARD: Board = Board::GR712RC;
 
     pub fn reset_state() -> Self
         ensures { λ r. ⌜ machineOf r ≡ bus.resetState gr712rc ⌝ }
@@ -172,7 +173,7 @@ impl Machine {
     }
 
     pub fn read(self, address: u32, size: u8) -> Answer
-        ensures { λ r. ⌜ Conforms self (call.read address size) r ⌝ }
+        ensures { λ r. ⌜ Conforms self (calls.Read address size) r ⌝ }
     {
         let found = Self::BOARD.window_at(address);
         let number = self.access_refusal(address, size, found);
@@ -183,7 +184,7 @@ impl Machine {
     }
 
     pub fn write(self, address: u32, size: u8, value: u32) -> Answer
-        ensures { λ r. ⌜ Conforms self (call.write address size value) r ⌝ }
+        ensures { λ r. ⌜ Conforms self (calls.Write address size value) r ⌝ }
     {
         let found = Self::BOARD.window_at(address);
         let number = self.access_refusal(address, size, found);
@@ -195,7 +196,7 @@ impl Machine {
 
     // A byte is offered to a port.
     pub fn offer(self, port: u8, byte: u8) -> Answer
-        ensures { λ r. ⌜ Conforms self (call.offer port byte) r ⌝ }
+        ensures { λ r. ⌜ Conforms self (calls.Offer port byte) r ⌝ }
     {
         if !self.well_formed() {
             return Answer::refused(refusal::ILL_FORMED, self);
@@ -211,7 +212,7 @@ impl Machine {
     }
 
     pub fn advance(self, cycles: u64) -> Answer
-        ensures { λ r. ⌜ Conforms self (call.advance cycles) r ⌝ }
+        ensures { λ r. ⌜ Conforms self (calls.Advance cycles) r ⌝ }
     {
         if !self.well_formed() {
             return Answer::refused(refusal::ILL_FORMED, self);
@@ -220,7 +221,7 @@ impl Machine {
     }
 
     pub fn skip(self, limit: u64) -> Answer
-        ensures { λ r. ⌜ Conforms self (call.skip limit) r ⌝ }
+        ensures { λ r. ⌜ Conforms self (calls.Skip limit) r ⌝ }
     {
         if !self.well_formed() {
             return Answer::refused(refusal::ILL_FORMED, self);
@@ -229,7 +230,7 @@ impl Machine {
     }
 
     pub fn reset(self) -> Answer
-        ensures { λ r. ⌜ Conforms self call.reset r ⌝ }
+        ensures { λ r. ⌜ Conforms self calls.Reset r ⌝ }
     {
         let after = Self::reset_state();
         if self.well_formed() {
@@ -240,7 +241,7 @@ impl Machine {
     }
 
     pub fn malformed(self) -> Answer
-        ensures { λ r. ⌜ Conforms self call.malformed r ⌝ }
+        ensures { λ r. ⌜ Conforms self calls.Malformed r ⌝ }
     {
         if !self.well_formed() {
             return Answer::refused(refusal::ILL_FORMED, self);
@@ -250,7 +251,7 @@ impl Machine {
 
     // Any of these calls.
     pub fn call(self, call: Call) -> Answer
-        ensures { λ r. ⌜ Conforms self (callOf call) r ⌝ }
+        ensures { λ r. ⌜ Conforms self call r ⌝ }
     {
         match call {
             Call::Read { address, size } => self.read(address, size),

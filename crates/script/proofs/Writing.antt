@@ -6,7 +6,7 @@ use native.Mathlib.Omega.{arith}
 use native.Mathlib.Nat.{add-zero, add-assoc}
 use lib.ListN.{length, take, drop, set, length-append, take-append-drop}
 use lib.Seq.{take-at, drop-at, drop-drop, take-set-le, set-split, length-take-le, append-snoc}
-use Rattle.script.specs.Lent.{wrote}
+use Rattle.script.specs.Buffer.{wrote}
 
 pub wrote-none : (l : List ℕ) (i : ℕ) → wrote l i [] ≡ l
 unfolding wrote

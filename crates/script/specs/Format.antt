@@ -6,10 +6,15 @@ use mathlib.Core.Bool.{not, _||_}
 use mathlib.Core.List.{List, [], _∷_, _++_}
 use lib.Dec.{eqb, ltb}
 use lib.ListN.{length}
+use Rattle.devices.specs.Refusal.{notRefused}
 use Rattle.bus.specs.Call.{_when_, first}
 use Rattle.script.specs.Number.{number, encoded}
 use Rattle.script.specs.Refusal.{badFile, badVersion}
 use Rattle.script.specs.declared.format.Format.{Format}
+use Rattle.script.specs.declared.format.Reason.{Reason}
+use Rattle.script.specs.declared.format.Reason.the-variants.{BadFile, BadVersion}
+use Rattle.script.specs.declared.format.Verdict.{Verdict}
+use Rattle.script.specs.declared.format.Verdict.the-variants.{Accepted, Refused}
 
 -- "A script starts with `APS` and a 16-bit version 1"; the mark's bytes are 41 50 53, here as a number
 abbrev pub script : Format
@@ -32,6 +37,15 @@ refusal f file =
     (badFile when (ltb (length file) headerLength || not (eqb (number 0 3 file) (f .mark))) ∷
     badVersion when not (eqb (number 3 2 file) (f .version)) ∷
     [])
+
+-- The number of each of the code's reasons for a refusal, and of each verdict: "0 | not refused".
+abbrev pub numberOf : Reason → ℕ
+numberOf BadFile = badFile
+numberOf BadVersion = badVersion
+
+abbrev pub verdictNumber : Verdict → ℕ
+verdictNumber Accepted = notRefused
+verdictNumber (Refused reason) = numberOf reason
 
 -- "For a bad header it writes only `refused 11` or `refused 12` and a newline": the numbers have two digits.
 abbrev pub digit : ℕ → ℕ

@@ -6,8 +6,9 @@ use lib.ListN.{length}
 use Rattle.script.specs.Script.{recordLength}
 use Rattle.script.specs.Log as logs
 
--- A script is cut between records into pieces: each but the last is of whole records.
+-- A script is cut between records into pieces: each but the last is of whole records. An empty script may be cut into none.
 pub data Cut : List ℕ → List (List ℕ) → Type 0 where
+  none : Cut [] []
   uncut : {piece : List ℕ} → Cut piece (piece ∷ [])
   cut :
       {piece rest : List ℕ} {pieces : List (List ℕ)} → length piece % recordLength ≡ 0 → Cut rest pieces →

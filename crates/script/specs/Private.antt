@@ -7,7 +7,7 @@ use Rattle.bus.specs.Machine as bus
 use Rattle.bus.specs.View.{machineOf}
 use Rattle.bus.specs.declared.machine.Machine.{Machine}
 use Rattle.script.specs.Number.{encoded}
-use Rattle.script.specs.Lent.{wrote}
+use Rattle.script.specs.Buffer.{wrote}
 use Rattle.script.specs.Log.{entry}
 use Rattle.script.specs.Run.{Ran}
 

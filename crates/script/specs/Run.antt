@@ -9,7 +9,7 @@ use lib.ListN.{length}
 use Rattle.devices.specs.Refusal.{notRefused, illFormed}
 use Rattle.bus.specs.Machine.{Machine, Answer, wellFormed}
 use Rattle.bus.specs.SlowRun.{answers, after}
-use Rattle.script.specs.Lent.{wrote}
+use Rattle.script.specs.Buffer.{wrote}
 use Rattle.script.specs.Script as scripts
 use Rattle.script.specs.Script.{calls}
 use Rattle.script.specs.Log as logs
@@ -36,12 +36,12 @@ ran n script log m =
     }
 
 -- "Refusal 9 of the whole run does 0 records." "A refused call writes nothing into a lent buffer".
-abbrev pub refused : (log : List ℕ) → Machine → Ran
-refused log m = record { refusal = illFormed; done = 0; answers = []; log = log; machine = m }
+abbrev pub runRefused : (log : List ℕ) → Machine → Ran
+runRefused log m = record { refusal = illFormed; done = 0; answers = []; log = log; machine = m }
 
--- "Every call on a machine is subject to 9".
-abbrev pub judged : (n : ℕ) (script log : List ℕ) → Machine → Ran
-judged n script log m = cond (wellFormed m) (ran n script log m) (refused log m)
+-- A run of the first n records: "Every call on a machine is subject to 9".
+abbrev pub runFirst : (n : ℕ) (script log : List ℕ) → Machine → Ran
+runFirst n script log m = cond (wellFormed m) (ran n script log m) (runRefused log m)
 
 -- "whole records given", "whole log records that fit"
 abbrev pub whole : (script : List ℕ) → ℕ
@@ -53,7 +53,7 @@ fitting log = length log / logs.entryLength
 -- "A run takes the machine, script records, a lent log and a limit in records. It does the smallest of: the limit, whole
 -- records given, whole log records that fit. A partial record at the end of what it is given is passed over".
 unfoldable pub run : (limit : ℕ) (script log : List ℕ) → Machine → Ran
-run limit script log = judged (min limit (min (whole script) (fitting log))) script log
+run limit script log = runFirst (min limit (min (whole script) (fitting log))) script log
 
 -- The records of a piece of the program's input: the whole ones, and a tail as one more, which is "cut short".
 abbrev pub withTail : (script : List ℕ) → ℕ
@@ -61,4 +61,4 @@ withTail script = whole script + cond (eqb (length script % scripts.recordLength
 
 -- What the program does with a piece of its input: as a run whose limit is never reached, and a tail is one record more.
 unfoldable pub piece : (script log : List ℕ) → Machine → Ran
-piece script log = judged (min (withTail script) (fitting log)) script log
+piece script log = runFirst (min (withTail script) (fitting log)) script log

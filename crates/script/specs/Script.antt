@@ -5,7 +5,8 @@ use mathlib.Core.Bool.{Bool, true, cond, _&&_}
 use mathlib.Core.List.{List, [], _∷_}
 use lib.Dec.{eqb, ltb}
 use lib.ListN.{length, take, drop}
-use Rattle.bus.specs.Call.{Call, read, write, offer, advance, skip, reset, malformed}
+use Rattle.bus.specs.declared.machine.Call.{Call}
+use Rattle.bus.specs.declared.machine.Call.the-variants.{Read, Write, Offer, Advance, Skip, Reset, Malformed}
 use Rattle.script.specs.Number.{byte, number}
 use Rattle.script.specs.declared.record.Fields.{Fields}
 
@@ -58,7 +59,7 @@ abbrev pub readLine : Fields → Line
 readLine r =
     record {
       kind = READ;
-      call = read (r .bytes_4_7) (r .byte_1);
+      call = Read (r .bytes_4_7) (r .byte_1);
       blanks = r .byte_2 ∷ r .byte_3 ∷ r .bytes_8_15 ∷ [];
     }
 
@@ -67,7 +68,7 @@ abbrev pub writeLine : Fields → Line
 writeLine r =
     record {
       kind = WRITE;
-      call = write (r .bytes_4_7) (r .byte_1) (r .bytes_12_15);
+      call = Write (r .bytes_4_7) (r .byte_1) (r .bytes_12_15);
       blanks = r .byte_2 ∷ r .byte_3 ∷ r .bytes_8_11 ∷ [];
     }
 
@@ -76,7 +77,7 @@ abbrev pub offerLine : Fields → Line
 offerLine r =
     record {
       kind = OFFER;
-      call = offer (r .byte_1) (r .byte_2);
+      call = Offer (r .byte_1) (r .byte_2);
       blanks = r .byte_3 ∷ r .bytes_4_7 ∷ r .bytes_8_15 ∷ [];
     }
 
@@ -85,7 +86,7 @@ abbrev pub advanceLine : Fields → Line
 advanceLine r =
     record {
       kind = ADVANCE;
-      call = advance (r .bytes_8_15);
+      call = Advance (r .bytes_8_15);
       blanks = r .byte_1 ∷ r .byte_2 ∷ r .byte_3 ∷ r .bytes_4_7 ∷ [];
     }
 
@@ -94,7 +95,7 @@ abbrev pub skipLine : Fields → Line
 skipLine r =
     record {
       kind = SKIP;
-      call = skip (r .bytes_8_15);
+      call = Skip (r .bytes_8_15);
       blanks = r .byte_1 ∷ r .byte_2 ∷ r .byte_3 ∷ r .bytes_4_7 ∷ [];
     }
 
@@ -103,7 +104,7 @@ abbrev pub resetLine : Fields → Line
 resetLine r =
     record {
       kind = RESET;
-      call = reset;
+      call = Reset;
       blanks = r .byte_1 ∷ r .byte_2 ∷ r .byte_3 ∷ r .bytes_4_7 ∷ r .bytes_8_15 ∷ [];
     }
 
@@ -116,15 +117,15 @@ allZero (n ∷ ns) = eqb n 0 && allZero ns
 
 -- "Another kind, or one of these not 0, is malformed."
 abbrev pub callOn : Line → Call
-callOn l = cond (allZero (l .blanks)) (l .call) malformed
+callOn l = cond (allZero (l .blanks)) (l .call) Malformed
 
 abbrev pub callAmong : ℕ → List Line → Call
-callAmong kind [] = malformed
+callAmong kind [] = Malformed
 callAmong kind (l ∷ ls) = cond (eqb kind (l .kind)) (callOn l) (callAmong kind ls)
 
 -- The call that a record stands for; "a script record is malformed or cut short"
 unfoldable pub callIn : List ℕ → Call
-callIn r = cond (ltb (length r) recordLength) malformed (callAmong (byte 0 r) (table (fields r)))
+callIn r = cond (ltb (length r) recordLength) Malformed (callAmong (byte 0 r) (table (fields r)))
 
 -- The calls of the first n records of a script; one that is not there, whole or in part, counts as cut short.
 abbrev pub calls : ℕ → List ℕ → List Call

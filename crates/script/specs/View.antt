@@ -1,5 +1,6 @@
--- What of the code's types counts, and the contract of each run. What does not count, and no definition decides, are a
--- queue's `head` and its places that hold no waiting byte.
+-- What of the code's types counts, and the contract of each run. No definition decides, in the machine that a run which is not
+-- refused leaves, what none decides in its ports (Apbuart/View.antt of the devices): a queue's `head` and its places that hold no
+-- waiting byte. Every later log record is the same whatever they are.
 pub mod Laws
 use Prim.Native.Nat.{ℕ}
 use mathlib.Core.Path.{_≡_}

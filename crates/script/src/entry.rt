@@ -7,7 +7,7 @@ ghost use Rattle.bus.specs.View.{answerOf};
 ghost use Rattle.script.specs.Log as logs;
 ghost use Rattle.script.specs.Number as big;
 ghost use Rattle.script.specs.Private as private;
-ghost use Rattle.script.specs.Lent.{wrote};
+ghost use Rattle.script.specs.Buffer.{wrote};
 use crate::number;
 use bus::machine::Answer;
 

@@ -3,7 +3,31 @@ ghost use mathlib.Core.Path.{_≡_};
 ghost use Rattle.script.specs.Format as format;
 use crate::number::number;
 use crate::refusal;
-use bus::refusal::NOT_REFUSED;
+
+// Why a file is refused.
+pub enum Reason {
+    // It is shorter than a header, or has the wrong mark.
+    BadFile,
+    // Its version is not the one that is read.
+    BadVersion,
+}
+
+// Whether a file is of the kind that it is taken for, by its first bytes.
+pub enum Verdict {
+    Accepted,
+    Refused(Reason),
+}
+
+impl Reason {
+    fn number(self) -> u8
+        ensures { λ r. ⌜ r ≡ format.numberOf self ⌝ }
+    {
+        match self {
+            Reason::BadFile => refusal::BAD_FILE,
+            Reason::BadVersion => refusal::BAD_VERSION,
+        }
+    }
+}
 
 // A kind of file: its mark, three bytes as a number, and its version.
 pub struct Format {
@@ -27,20 +51,20 @@ impl Format {
         version: 1,
     };
 
-    // The refusal number of a file, by its first bytes: 11 before 12.
-    fn refusal(self, file: &[u8]) -> u8
-        ensures { λ r. ⌜ r ≡ format.refusal self (now (file .entry)) ⌝ }
+    // A file is judged by its first bytes: 11 before 12.
+    fn judge(self, file: &[u8]) -> Verdict
+        ensures { λ r. ⌜ format.verdictNumber r ≡ format.refusal self (now (file .entry)) ⌝ }
     {
         if file.len() < Self::HEADER {
-            return refusal::BAD_FILE;
+            return Verdict::Refused(Reason::BadFile);
         }
         if number(file, 0, 3) != self.mark as u64 {
-            return refusal::BAD_FILE;
+            return Verdict::Refused(Reason::BadFile);
         }
         if number(file, 3, 2) != self.version as u64 {
-            return refusal::BAD_VERSION;
+            return Verdict::Refused(Reason::BadVersion);
         }
-        NOT_REFUSED
+        Verdict::Accepted
     }
 
     fn header(self) -> [u8; Format::HEADER]
@@ -56,11 +80,11 @@ impl Format {
     }
 }
 
-// The refusal number of a script file, by its first bytes.
-pub fn script_refusal(file: &[u8]) -> u8
-    ensures { λ r. ⌜ r ≡ format.refusal format.script (now (file .entry)) ⌝ }
+// Whether a file is a script, by its first bytes.
+pub fn judge_script(file: &[u8]) -> Verdict
+    ensures { λ r. ⌜ format.verdictNumber r ≡ format.refusal format.script (now (file .entry)) ⌝ }
 {
-    Format::SCRIPT.refusal(file)
+    Format::SCRIPT.judge(file)
 }
 
 // What a log begins with.
@@ -71,9 +95,10 @@ pub fn log_header() -> [u8; Format::HEADER]
 }
 
 // What is written in place of a log: the refusal's number, in two digits.
-pub fn refusal_line(number: u8) -> [u8; 11]
-    ensures { λ r. ⌜ r ≡ format.refusalLine number ⌝ }
+pub fn refusal_line(reason: Reason) -> [u8; 11]
+    ensures { λ r. ⌜ r ≡ format.refusalLine (format.numberOf reason) ⌝ }
 {
+    let number = reason.number();
     let tens = number / 10 % 10;
     let ones = number % 10;
     [

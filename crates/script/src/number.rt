@@ -3,7 +3,7 @@ ghost use mathlib.Core.Path.{_≡_};
 ghost use Prim.Native.Nat.{_+_, _^_, _≤_, _<_};
 ghost use lib.ListN.{length};
 ghost use Rattle.script.specs.Number as big;
-ghost use Rattle.script.specs.Lent.{wrote};
+ghost use Rattle.script.specs.Buffer.{wrote};
 
 // The number in the `count` bytes from `at` on.
 pub(crate) fn number(bytes: &[u8], at: usize, count: usize) -> u64

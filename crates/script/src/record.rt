@@ -3,7 +3,6 @@ ghost use mathlib.Core.Path.{_≡_};
 ghost use mathlib.Core.List.{[], _∷_};
 ghost use Prim.Native.Nat.{_≤_};
 ghost use lib.ListN.{length};
-ghost use Rattle.bus.specs.View.{callOf};
 ghost use Rattle.script.specs.Script as scripts;
 use crate::number::number;
 use bus::machine::Call;
@@ -38,7 +37,7 @@ struct Fields {
 
 // The call of a record. Bytes behind a whole record are not looked at.
 pub fn decode(bytes: &[u8]) -> Call
-    ensures { λ r. ⌜ callOf r ≡ scripts.callIn (now (bytes .entry)) ⌝ }
+    ensures { λ r. ⌜ r ≡ scripts.callIn (now (bytes .entry)) ⌝ }
 {
     if bytes.len() < LENGTH {
         return Call::Malformed;
@@ -64,7 +63,7 @@ impl Fields {
     }
 
     fn call(self) -> Call
-        ensures { λ r. ⌜ callOf r ≡ scripts.callAmong (self .kind) (scripts.table self) ⌝ }
+        ensures { λ r. ⌜ r ≡ scripts.callAmong (self .kind) (scripts.table self) ⌝ }
     {
         if self.kind == READ {
             return self.read();
@@ -88,7 +87,7 @@ impl Fields {
     }
 
     fn read(self) -> Call
-        ensures { λ r. ⌜ callOf r ≡ scripts.callOn (scripts.readLine self) ⌝ }
+        ensures { λ r. ⌜ r ≡ scripts.callOn (scripts.readLine self) ⌝ }
     {
         if is_blank(0, self.byte_2, self.byte_3, 0, self.bytes_8_15) {
             return Call::Read {
@@ -100,7 +99,7 @@ impl Fields {
     }
 
     fn write(self) -> Call
-        ensures { λ r. ⌜ callOf r ≡ scripts.callOn (scripts.writeLine self) ⌝ }
+        ensures { λ r. ⌜ r ≡ scripts.callOn (scripts.writeLine self) ⌝ }
     {
         if is_blank(0, self.byte_2, self.byte_3, self.bytes_8_11, 0) {
             return Call::Write {
@@ -113,7 +112,7 @@ impl Fields {
     }
 
     fn offer(self) -> Call
-        ensures { λ r. ⌜ callOf r ≡ scripts.callOn (scripts.offerLine self) ⌝ }
+        ensures { λ r. ⌜ r ≡ scripts.callOn (scripts.offerLine self) ⌝ }
     {
         if is_blank(0, 0, self.byte_3, self.bytes_4_7, self.bytes_8_15) {
             return Call::Offer {
@@ -125,7 +124,7 @@ impl Fields {
     }
 
     fn advance(self) -> Call
-        ensures { λ r. ⌜ callOf r ≡ scripts.callOn (scripts.advanceLine self) ⌝ }
+        ensures { λ r. ⌜ r ≡ scripts.callOn (scripts.advanceLine self) ⌝ }
     {
         if is_blank(self.byte_1, self.byte_2, self.byte_3, self.bytes_4_7, 0) {
             return Call::Advance(self.bytes_8_15);
@@ -134,7 +133,7 @@ impl Fields {
     }
 
     fn skip(self) -> Call
-        ensures { λ r. ⌜ callOf r ≡ scripts.callOn (scripts.skipLine self) ⌝ }
+        ensures { λ r. ⌜ r ≡ scripts.callOn (scripts.skipLine self) ⌝ }
     {
         if is_blank(self.byte_1, self.byte_2, self.byte_3, self.bytes_4_7, 0) {
             return Call::Skip(self.bytes_8_15);
@@ -143,7 +142,7 @@ impl Fields {
     }
 
     fn reset(self) -> Call
-        ensures { λ r. ⌜ callOf r ≡ scripts.callOn (scripts.resetLine self) ⌝ }
+        ensures { λ r. ⌜ r ≡ scripts.callOn (scripts.resetLine self) ⌝ }
     {
         if is_blank(
             self.byte_1,

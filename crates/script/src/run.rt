@@ -62,7 +62,7 @@ fn with_tail(length: usize) -> usize
 fn run_records(machine: Machine, script: &[u8], log: &mut [u8], count: usize) -> Ran
     requires { ⌜ scripts.recordLength * count < length (now script) + scripts.recordLength ⌝ }
     requires { ⌜ logs.entryLength * count ≤ length (now log) ⌝ }
-    ensures { λ r. ⌜ Conforms machine (runs.judged count (now (script .entry)) (now (log .entry))) r (now (log .exit)) ⌝ }
+    ensures { λ r. ⌜ Conforms machine (runs.runFirst count (now (script .entry)) (now (log .entry))) r (now (log .exit)) ⌝ }
 {
     if !machine.well_formed() {
         return Ran {

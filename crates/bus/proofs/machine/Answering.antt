@@ -13,10 +13,10 @@ use Rattle.devices.specs.declared.gptimer.Elapsed.{Elapsed}
 use Rattle.bus.specs.Refusal.{noPort, badRecord}
 use Rattle.bus.specs.Board.{gr712rc}
 use Rattle.bus.specs.Machine as bus
-use Rattle.bus.specs.Call.{Call, offer, malformed, Subject, access, byteFor, other, refusal, subject}
-use Rattle.bus.specs.Call.{readDevice, writeDevice, reach, done}
-use Rattle.bus.specs.Call.Laws.{done-number, answer-done, answer-refused, no-port-number, offer-number, ill-number, other-number}
-use Rattle.bus.specs.View.{machineOf, answerOf, callOf, Conforms}
+use Rattle.bus.specs.Call.{Subject, access, byteFor, other, refusal, subject}
+use Rattle.bus.specs.Call.{readDevice, writeDevice, reach, execute}
+use Rattle.bus.specs.Call.Laws.{execute-number, answer-executed, answer-refused, no-port-number, offer-number, ill-number, other-number}
+use Rattle.bus.specs.View.{machineOf, answerOf, Conforms}
 use Rattle.bus.specs.declared.board.Window.{Window}
 use Rattle.bus.specs.declared.board.Device.{Device}
 use Rattle.bus.specs.declared.board.Device.the-variants as device
@@ -24,7 +24,8 @@ use Rattle.bus.specs.declared.board.Found.{Found}
 use Rattle.bus.specs.declared.board.Found.the-variants.{In, Nowhere}
 use Rattle.bus.specs.declared.machine.Machine.{Machine}
 use Rattle.bus.specs.declared.machine.Answer.{Answer}
-use Rattle.bus.specs.declared.machine.Call as machine
+use Rattle.bus.specs.declared.machine.Call.{Call}
+use Rattle.bus.specs.declared.machine.Call.the-variants.{Offer, Malformed}
 
 -- An answer that was made, with the levels of the machine after it.
 pub answered-by :
@@ -47,12 +48,12 @@ answered-by refusal emitted byte lines value cycles pulses after x e f = rw (f, 
 -- A call that is not refused, and one that is.
 module _ (m : Machine) (c : Call) (a : Answer) where
   accepts :
-      refusal (subject c (machineOf m)) (machineOf m) ≡ notRefused → answerOf a ≡ done c (machineOf m) →
+      refusal (subject c (machineOf m)) (machineOf m) ≡ notRefused → answerOf a ≡ execute c (machineOf m) →
       Conforms m c a
   accepts z e =
       record {
-        answer = e ∙ sym (answer-done c (machineOf m) z);
-        same = λ refused. absurd (refused (ap (λ (x : bus.Answer). x .refusal) e ∙ done-number c (machineOf m)));
+        answer = e ∙ sym (answer-executed c (machineOf m) z);
+        same = λ refused. absurd (refused (ap (λ (x : bus.Answer). x .refusal) e ∙ execute-number c (machineOf m)));
       }
 
   refuses :
@@ -66,12 +67,12 @@ module _ (m : Machine) (c : Call) (a : Answer) where
 module _
     (m : Machine) (c : Call) (a : Answer) (number : ℕ) (s : Subject) (given : number ≡ refusal s (machineOf m))
     (asked : s ≡ subject c (machineOf m)) where
-  pub judged-done : number ≡ notRefused → answerOf a ≡ done c (machineOf m) → Conforms m c a
-  judged-done z e = accepts m c a (rw (← asked, ← given) z) e
+  pub table-accepts : number ≡ notRefused → answerOf a ≡ execute c (machineOf m) → Conforms m c a
+  table-accepts z e = accepts m c a (rw (← asked, ← given) z) e
 
-  pub judged-refused :
+  pub table-refuses :
       (number ≡ notRefused → ⊥) → (answerOf a ≡ bus.refused number (machineOf m)) × (a .machine ≡ m) → Conforms m c a
-  judged-refused differs f = refuses m c a number (rw (← asked) given) differs f
+  table-refuses differs f = refuses m c a number (rw (← asked) given) differs f
 
 -- By the test for 9.
 module _ (m : Machine) (c : Call) (a : Answer) (b : Bool) (e : b ≡ bus.wellFormed (machineOf m)) where
@@ -81,14 +82,14 @@ module _ (m : Machine) (c : Call) (a : Answer) (b : Bool) (e : b ≡ bus.wellFor
       refuses m c a illFormed (ill-number (subject c (machineOf m)) (machineOf m) (sym e ∙ t))
       (λ z. absurd (omega arith)) f
 
-  pub well-done : b ≡ true → subject c (machineOf m) ≡ other → answerOf a ≡ done c (machineOf m) → Conforms m c a
+  pub well-done : b ≡ true → subject c (machineOf m) ≡ other → answerOf a ≡ execute c (machineOf m) → Conforms m c a
   well-done t asked f = accepts m c a (rw asked (other-number (machineOf m) (sym e ∙ t))) f
 
 pub bad-record :
     (m : Machine) (a : Answer) (b : Bool) → b ≡ bus.wellFormed (machineOf m) → b ≡ true →
-    (answerOf a ≡ bus.refused badRecord (machineOf m)) × (a .machine ≡ m) → Conforms m malformed a
+    (answerOf a ≡ bus.refused badRecord (machineOf m)) × (a .machine ≡ m) → Conforms m Malformed a
 unfolding refusal
-bad-record m a b e t f = refuses m malformed a badRecord (rw (← e, t) refl) (λ z. absurd (omega arith)) f
+bad-record m a b e t f = refuses m Malformed a badRecord (rw (← e, t) refl) (λ z. absurd (omega arith)) f
 
 -- What a call does, with what was answered in place of its definition.
 module _ (m : bus.Machine) (z : bus.Answer) where
@@ -110,9 +111,9 @@ asked-at address size x y e = rw e refl
 module _ (m : Machine) (n byte : ℕ) (b : Bool) (e : b ≡ bus.wellFormed (machineOf m)) (t : b ≡ true) where
   pub offer-no-port :
       (a : Answer) → gr712rc .ports ≤ n → (answerOf a ≡ bus.refused noPort (machineOf m)) × (a .machine ≡ m) →
-      Conforms m (offer n byte) a
+      Conforms m (Offer n byte) a
   offer-no-port a l f =
-      refuses m (offer n byte) a noPort
+      refuses m (Offer n byte) a noPort
       (no-port-number n (machineOf m) (sym e ∙ t) (le-leb (gr712rc .ports) n l)) (λ z. absurd (omega arith)) f
 
   module _
@@ -124,12 +125,12 @@ module _ (m : Machine) (n byte : ℕ) (b : Bool) (e : b ≡ bus.wellFormed (mach
     pub offer-refused :
         (a : Answer) → (x .refusal ≡ notRefused → ⊥) →
         (answerOf a ≡ bus.refused (x .refusal) (machineOf m)) × (a .machine ≡ m) →
-        Conforms m (offer n byte) a
-    offer-refused a differs g = judged-refused m (offer n byte) a (x .refusal) (byteFor n) own refl differs g
+        Conforms m (Offer n byte) a
+    offer-refused a differs g = table-refuses m (Offer n byte) a (x .refusal) (byteFor n) own refl differs g
 
     pub offer-done :
-        (a : Answer) → x .refusal ≡ notRefused → answerOf a ≡ bus.ofPort n x (machineOf m) → Conforms m (offer n byte) a
-    offer-done a z g = judged-done m (offer n byte) a (x .refusal) (byteFor n) own refl z (rw (← h, ← f) g)
+        (a : Answer) → x .refusal ≡ notRefused → answerOf a ≡ bus.ofPort n x (machineOf m) → Conforms m (Offer n byte) a
+    offer-done a z g = table-accepts m (Offer n byte) a (x .refusal) (byteFor n) own refl z (rw (← h, ← f) g)
 
 -- What an access reaches.
 module _ (reply : Device → ℕ → bus.Answer) (m : bus.Machine) (address : ℕ) (found : Found) (x : bus.Answer) where
@@ -164,12 +165,12 @@ module _ (m : bus.Machine) (d : Device) (offset : ℕ) (x : bus.Answer) where
 
 -- A call by its variant.
 pub by-variant :
-    (m : Machine) (k v : machine.Call) (a : Answer) → k ≡ v → Conforms m (callOf v) a → Conforms m (callOf k) a
+    (m : Machine) (k v : Call) (a : Answer) → k ≡ v → Conforms m v a → Conforms m k a
 by-variant m k v a e h = rw e h
 
 pub ruleset reaching = (reaches-window, reaches-none, read-port, read-unit, write-port, write-unit)
 
 pub ruleset answering =
-    (not-true, not-false, ill-formed, well-done, bad-record, judged-done, judged-refused, asked-at, of-span, of-machine, of-access)
+    (not-true, not-false, ill-formed, well-done, bad-record, table-accepts, table-refuses, asked-at, of-span, of-machine, of-access)
 
 pub ruleset offering = (not-true, not-false, ill-formed, offer-no-port, offer-refused, offer-done)

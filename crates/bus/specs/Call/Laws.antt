@@ -21,12 +21,14 @@ use Rattle.bus.specs.Refusal.{noPort}
 use Rattle.bus.specs.Machine.{Machine, portAt, withUnit, allWell, wellFormed, resetState}
 use Rattle.bus.specs.Machine.{Answer, refused, accepted, ofPort, ofSpan}
 use Rattle.bus.specs.Call as call
-use Rattle.bus.specs.Call.{Call, Rule, first, Subject, byteFor, other, table, refusal, windowOf, subject}
-use Rattle.bus.specs.Call.{readDevice, writeDevice, reach, done, answer}
+use Rattle.bus.specs.Call.{Rule, first, Subject, byteFor, other, table, refusal, windowOf, subject}
+use Rattle.bus.specs.Call.{readDevice, writeDevice, reach, execute, answer}
 use Rattle.bus.specs.declared.board.Device.{Device}
 use Rattle.bus.specs.declared.board.Device.the-variants as device
 use Rattle.bus.specs.declared.board.Found.{Found}
 use Rattle.bus.specs.declared.board.Found.the-variants.{In, Nowhere}
+use Rattle.bus.specs.declared.machine.Call.{Call}
+use Rattle.bus.specs.declared.machine.Call.the-variants.{Read, Write, Offer, Advance, Skip, Reset, Malformed}
 
 -- What a call does is one of these: what a port answers, which neither makes nor repairs an ill-formed port; an access of
 -- the timer unit; a span of time; a reset.
@@ -50,24 +52,24 @@ module _
       ports n (uart.write offset value (portAt n m)) (write-keeps offset value (portAt n m))
   writes value device.TimerUnit offset = units 0 (gpt.write offset value (m .unit))
 
-  done-all : (c : Call) → P (done c m)
-  done-all (call.read address size) = reaches (readDevice m) address (windowOf address m) reads
-  done-all (call.write address size value) = reaches (writeDevice value m) address (windowOf address m) (writes value)
-  done-all (call.offer n byte) = ports _ (uart.offer byte _) (offer-keeps byte _)
-  done-all (call.advance cycles) = spans (gpt.advance cycles (m .unit))
-  done-all (call.skip limit) = spans (gpt.skip limit (m .unit))
-  done-all call.reset = resets
-  done-all call.malformed = units 0 (m .unit)
+  execute-all : (c : Call) → P (execute c m)
+  execute-all (Read address size) = reaches (readDevice m) address (windowOf address m) reads
+  execute-all (Write address size value) = reaches (writeDevice value m) address (windowOf address m) (writes value)
+  execute-all (Offer n byte) = ports _ (uart.offer byte _) (offer-keeps byte _)
+  execute-all (Advance cycles) = spans (gpt.advance cycles (m .unit))
+  execute-all (Skip limit) = spans (gpt.skip limit (m .unit))
+  execute-all Reset = resets
+  execute-all Malformed = units 0 (m .unit)
 
 -- What a call does has the number 0.
-pub done-number : (c : Call) (m : Machine) → done c m .refusal ≡ notRefused
-done-number c m = done-all (λ a. a .refusal ≡ notRefused) m (λ n a kept. refl) (λ value u. refl) (λ e. refl) refl c
+pub execute-number : (c : Call) (m : Machine) → execute c m .refusal ≡ notRefused
+execute-number c m = execute-all (λ a. a .refusal ≡ notRefused) m (λ n a kept. refl) (λ value u. refl) (λ e. refl) refl c
 
 -- A call is answered by what it does, or refused.
 module _ (c : Call) (m : Machine) where
-  pub answer-done : refusal (subject c m) m ≡ notRefused → answer c m ≡ done c m
+  pub answer-executed : refusal (subject c m) m ≡ notRefused → answer c m ≡ execute c m
   unfolding answer
-  answer-done z = rw (eq-eqb (refusal (subject c m) m) notRefused z) refl
+  answer-executed z = rw (eq-eqb (refusal (subject c m) m) notRefused z) refl
 
   pub answer-refused :
       (number : ℕ) → number ≡ refusal (subject c m) m → (number ≡ notRefused → ⊥) → answer c m ≡ refused number m
@@ -143,7 +145,7 @@ refusal-none s m = first-none (table s m) (table-numbered s m)
 pub answer-number : (c : Call) (m : Machine) → answer c m .refusal ≡ refusal (subject c m) m
 answer-number c m =
     elim (ℕ-discrete (refusal (subject c m) m) notRefused) [
-      | yes z ↦ rw (answer-done c m z, z) (done-number c m)
+      | yes z ↦ rw (answer-executed c m z, z) (execute-number c m)
       | no differs ↦ rw (answer-refused c m (refusal (subject c m) m) refl differs) refl
     ]
 
@@ -163,10 +165,10 @@ well-set [] n p w v = refl
 well-set (q ∷ ps) zero p w v = rw v (well-cons q ps w .1)
 well-set (q ∷ ps) (suc n) p w v = rw (well-cons q ps w .0) (well-set ps n p (well-cons q ps w .1) v)
 
-done-well : (c : Call) (m : Machine) → wellFormed m ≡ true → wellFormed (done c m .machine) ≡ true
+execute-well : (c : Call) (m : Machine) → wellFormed m ≡ true → wellFormed (execute c m .machine) ≡ true
 unfolding allWell uart.wellFormed
-done-well c m w =
-    done-all (λ a. wellFormed (a .machine) ≡ true) m
+execute-well c m w =
+    execute-all (λ a. wellFormed (a .machine) ≡ true) m
     (λ n a kept. well-set (m .ports) n (a .port) w (kept ∙ well-at (m .ports) n w)) (λ value u. w) (λ e. w) refl c
 
 pub answer-keeps : (c : Call) (m : Machine) → wellFormed (answer c m .machine) ≡ wellFormed m
@@ -175,7 +177,7 @@ answer-keeps c m =
     tested (wellFormed m)
     (λ w.
     chosen (λ b (a : Answer). wellFormed (a .machine) ≡ wellFormed m) (eqb (refusal (subject c m) m) notRefused) _ _
-    (done-well c m w ∙ sym w) refl)
+    (execute-well c m w ∙ sym w) refl)
     (λ ill. rw (ill-refused c m ill) refl)
 
 -- On a well-formed machine an advance and a skip are the timer unit's.
@@ -184,8 +186,8 @@ unfolding refusal
 other-number m w = rw w refl
 
 module _ (m : Machine) (w : wellFormed m ≡ true) (n : ℕ) where
-  pub advance-well : answer (call.advance n) m ≡ ofSpan (gpt.advance n (m .unit)) m
-  advance-well = answer-done (call.advance n) m (other-number m w)
+  pub advance-well : answer (Advance n) m ≡ ofSpan (gpt.advance n (m .unit)) m
+  advance-well = answer-executed (Advance n) m (other-number m w)
 
-  pub skip-well : answer (call.skip n) m ≡ ofSpan (gpt.skip n (m .unit)) m
-  skip-well = answer-done (call.skip n) m (other-number m w)
+  pub skip-well : answer (Skip n) m ≡ ofSpan (gpt.skip n (m .unit)) m
+  skip-well = answer-executed (Skip n) m (other-number m w)

@@ -3,22 +3,28 @@ use Prim.Native.Nat.{ℕ, _+_}
 use mathlib.Core.Path.{_≡_, refl, sym, ap, _∙_}
 use mathlib.Core.List.{List, [], _∷_, map}
 use lib.ListN.{length, length-map}
-use lib.Seq.{take-at, drop-at}
 use Rattle.devices.specs.Cases.{tested}
 use Rattle.devices.specs.Gptimer as gpt
 use Rattle.devices.specs.Gptimer.Laws.{advance-cut}
 use Rattle.bus.specs.Machine.{Machine, Answer, withUnit, wellFormed}
-use Rattle.bus.specs.Call.{advance, answer}
+use Rattle.bus.specs.Call.{answer}
 use Rattle.bus.specs.Call.Laws.{advance-well, ill-refused}
 use Rattle.bus.specs.SlowRun.{answers, after}
 use Rattle.bus.specs.SlowRun.Laws.{answers-append, after-append, length-answers}
-use Rattle.bus.specs.Cuts.{Item, whole, cut, total, uncutCalls, cutCalls}
-use Rattle.bus.specs.Cuts.{joined, allJoined, rejoined}
+use Rattle.bus.specs.Cuts as cuts
+use Rattle.bus.specs.Cuts.{Item, kept, cut, total, uncutCalls, cutCalls, joined, together, Rejoined}
+use Rattle.bus.specs.declared.machine.Call.the-variants.{Advance}
+
+-- An advance of 0 changes nothing.
+advance-none : (m : Machine) → answer (Advance 0) m .machine ≡ m
+unfolding gpt.advance
+advance-none m =
+    tested (wellFormed m) (λ w. rw (advance-well m w 0) refl) (λ ill. rw (ill-refused (Advance 0) m ill) refl)
 
 -- An advance in two.
 advance-joined :
     (a b : ℕ) (m : Machine) →
-    answer (advance (a + b)) m ≡ joined (answer (advance a) m) (answer (advance b) (answer (advance a) m .machine))
+    answer (Advance (a + b)) m ≡ joined (answer (Advance a) m) (answer (Advance b) (answer (Advance a) m .machine))
 advance-joined a b m =
     tested (wellFormed m)
     (λ w.
@@ -31,52 +37,39 @@ advance-joined a b m =
     refl)
     (λ ill.
     rw (
-      ill-refused (advance a) m ill,
-      ill-refused (advance b) m ill,
-      ill-refused (advance (a + b)) m ill,
+      ill-refused (Advance a) m ill,
+      ill-refused (Advance b) m ill,
+      ill-refused (Advance (a + b)) m ill,
     )
     refl)
 
--- An advance in spans.
-spans-joined :
-    (span : ℕ) (spans : List ℕ) (m : Machine) →
-    answer (advance (total span spans)) m ≡
-    allJoined (answer (advance span) m) (answers (map advance spans) (answer (advance span) m .machine))
-spans-joined span [] m = refl
-spans-joined span (next ∷ spans) m =
-    advance-joined span (total next spans) m ∙
-    ap (joined (answer (advance span) m)) (spans-joined next spans (answer (advance span) m .machine))
-
-spans-after :
-    (span : ℕ) (spans : List ℕ) (m : Machine) →
-    after (map advance spans) (answer (advance span) m .machine) ≡ answer (advance (total span spans)) m .machine
-spans-after span [] m = refl
-spans-after span (next ∷ spans) m =
-    spans-after next spans (answer (advance span) m .machine) ∙
-    sym (ap (λ (a : Answer). a .machine) (advance-joined span (total next spans) m))
+-- An advance in spans: their answers put together, and the machine after them.
+spans-together :
+    (spans : List ℕ) (m : Machine) →
+    (together m (answers (map Advance spans) m) ≡ answer (Advance (total spans)) m) ×
+    (after (map Advance spans) m ≡ answer (Advance (total spans)) m .machine)
+spans-together [] m = (refl, sym (advance-none m))
+spans-together (span ∷ spans) m =
+    let rest = spans-together spans (answer (Advance span) m .machine) in
+    rw (advance-joined span (total spans) m) (ap (joined (answer (Advance span) m)) (rest .0), rest .1)
 
 -- The slow run of the cut list against that of the uncut one.
 pub slow-cut :
     (es : List Item) (m : Machine) →
-    (answers (uncutCalls es) m ≡ rejoined es (answers (cutCalls es) m)) ×
-    (after (uncutCalls es) m ≡ after (cutCalls es) m)
-slow-cut [] m = (refl, refl)
-slow-cut (whole c ∷ es) m =
-    let rest = slow-cut es (answer c m .machine) in
-    (ap {B = List Answer} (λ others. answer c m ∷ others) (rest .0), rest .1)
-slow-cut (cut span spans ∷ es) m =
-    let first = answer (advance span) m in
-    let later = answers (map advance spans) (first .machine) in
-    let next = answer (advance (total span spans)) m .machine in
-    let rest = slow-cut es next in
-    let many : length later ≡ length spans =
-    length-answers (map advance spans) (first .machine) ∙ length-map spans advance in
+    Rejoined es m (answers (cutCalls es) m) (answers (uncutCalls es) m) × (after (uncutCalls es) m ≡ after (cutCalls es) m)
+slow-cut [] m = (cuts.end, refl)
+slow-cut (kept c ∷ es) m = let rest = slow-cut es (answer c m .machine) in (cuts.unchanged (rest .0), rest .1)
+slow-cut (cut spans ∷ es) m =
+    let parts = answers (map Advance spans) m in
+    let own = spans-together spans m in
+    let rest = slow-cut es (together m parts .machine) in
+    let many : length parts ≡ length spans = length-answers (map Advance spans) m ∙ length-map spans Advance in
     rw (
-      answers-append (map advance spans) (cutCalls es) (first .machine),
-      after-append (map advance spans) (cutCalls es) (first .machine),
-      spans-after span spans m,
-      take-at later (answers (cutCalls es) next) (length spans) many,
-      drop-at later (answers (cutCalls es) next) (length spans) many,
-      ← spans-joined span spans m,
-      ← rest .0,
-    ) (refl, rest .1)
+      answers-append (map Advance spans) (cutCalls es) m,
+      after-append (map Advance spans) (cutCalls es) m,
+      own .1,
+      ← own .0,
+    ) (
+      cuts.put-together parts many (rest .0),
+      ap (λ (a : Answer). after (uncutCalls es) (a .machine)) (sym (own .0)) ∙ rest .1,
+    )

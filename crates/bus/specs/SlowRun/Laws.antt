@@ -4,9 +4,10 @@ use mathlib.Core.Path.{_≡_, refl, ap, _∙_}
 use mathlib.Core.List.{List, [], _∷_, _++_}
 use lib.ListN.{length}
 use Rattle.bus.specs.Machine.{Machine, Answer, wellFormed}
-use Rattle.bus.specs.Call.{Call, answer}
+use Rattle.bus.specs.Call.{answer}
 use Rattle.bus.specs.Call.Laws.{answer-keeps}
 use Rattle.bus.specs.SlowRun.{answers, after}
+use Rattle.bus.specs.declared.machine.Call.{Call}
 
 -- The slow run of two lists, one after the other.
 pub answers-append : (cs ds : List Call) (m : Machine) → answers (cs ++ ds) m ≡ answers cs m ++ answers ds (after cs m)

@@ -10,12 +10,12 @@ use lib.Seq.{take-suc, take-all, length-take-le}
 use Rattle.bus.specs.Machine.{Answer}
 use Rattle.script.specs.Number.{encoded}
 use Rattle.script.specs.Number.Laws.{encoded-join, length-encoded}
-use Rattle.script.specs.Lent.{wrote}
+use Rattle.script.specs.Buffer.{wrote}
 use Rattle.script.specs.Log.{entry}
 use Rattle.script.specs.Private.{longs, firstLong}
 use Rattle.script.proofs.Writing.{wrote-join}
 
--- The firstLong as one number.
+-- The first 8 bytes as one number.
 pub first-joined :
     (refusal flag byte levels value : ℕ) (emitted : Bool) → flag ≡ cond emitted 1 0 → flag ≤ 1 → byte < 256 → levels < 256 →
     value < 2 ^ 32 →

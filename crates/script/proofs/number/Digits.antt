@@ -10,7 +10,7 @@ use mir.Syntax.{w64}
 use mir.Val.{Fits}
 use Rattle.script.specs.Number.{byte, number, encoded}
 use Rattle.script.specs.Number.Laws.{length-encoded}
-use Rattle.script.specs.Lent.{wrote}
+use Rattle.script.specs.Buffer.{wrote}
 use Rattle.script.proofs.Writing.{wrote-none, wrote-last}
 
 -- A byte more of a number.

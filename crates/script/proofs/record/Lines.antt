@@ -5,7 +5,8 @@ use mathlib.Core.Bool.{Bool, true, false}
 use mathlib.Core.List.{List}
 use lib.ListN.{length}
 use borrow.Author.Tests.{le-ltb}
-use Rattle.bus.specs.Call.{Call, malformed}
+use Rattle.bus.specs.declared.machine.Call.{Call}
+use Rattle.bus.specs.declared.machine.Call.the-variants.{Malformed}
 use Rattle.script.specs.Script.{recordLength, fields, Line, table, allZero, callOn, callAmong, callIn}
 use Rattle.script.specs.declared.record.Fields.{Fields}
 
@@ -13,7 +14,7 @@ module _ (l : Line) (b : Bool) (e : b ≡ allZero (l .blanks)) where
   pub blanks-zero : (x : Call) → b ≡ true → x ≡ l .call → x ≡ callOn l
   blanks-zero x t f = rw (← e, t) f
 
-  pub blanks-written : b ≡ false → malformed ≡ callOn l
+  pub blanks-written : b ≡ false → Malformed ≡ callOn l
   blanks-written t = rw (← e, t)
 
 -- A record that is long enough.

@@ -14,7 +14,8 @@ use Rattle.bus.specs.View as view
 use Rattle.bus.specs.View.{machineOf, answerOf}
 use Rattle.bus.specs.declared.machine.Machine.{Machine}
 use Rattle.bus.specs.declared.machine.Answer.{Answer}
-use Rattle.script.specs.Lent.{wrote}
+use Rattle.bus.specs.declared.machine.Call.{Call}
+use Rattle.script.specs.Buffer.{wrote}
 use Rattle.script.specs.Script as scripts
 use Rattle.script.specs.Script.{callIn, calls}
 use Rattle.script.specs.Script.Laws.{calls-add}
@@ -41,7 +42,7 @@ module _ (script : List ℕ) (k n : ℕ) where
 
 -- One record: what its call answered is logged.
 pub stepped :
-    (m : Machine) (r before bytes : List ℕ) (at : ℕ) (c : call.Call) (a : Answer) → c ≡ callIn r → view.Conforms m c a →
+    (m : Machine) (r before bytes : List ℕ) (at : ℕ) (c : Call) (a : Answer) → c ≡ callIn r → view.Conforms m c a →
     bytes ≡ wrote before at (entry (answerOf a)) →
     Stepped (call.answer (callIn r) (machineOf m)) before at (a .machine) bytes
 stepped m r before bytes at c a e h f =

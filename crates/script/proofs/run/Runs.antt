@@ -26,7 +26,7 @@ use Rattle.script.specs.declared.run.Ran.{Ran}
 module _ (m : Machine) (b : Bool) (e : b ≡ bus.wellFormed (machineOf m)) (script log bytes : List ℕ) (n : ℕ) (r : Ran) where
   pub records-done :
       not b ≡ false → r .refusal ≡ notRefused → r .done ≡ n →
-      Played (run.ran n script log (machineOf m)) (r .machine) bytes → Conforms m (run.judged n script log) r bytes
+      Played (run.ran n script log (machineOf m)) (r .machine) bytes → Conforms m (run.runFirst n script log) r bytes
   records-done t number done played =
       let w : bus.wellFormed (machineOf m) ≡ true = sym e ∙ not-false b t in
       record {
@@ -40,7 +40,7 @@ module _ (m : Machine) (b : Bool) (e : b ≡ bus.wellFormed (machineOf m)) (scri
 
   pub records-refused :
       not b ≡ true → r .refusal ≡ illFormed → r .done ≡ 0 → r .machine ≡ m → bytes ≡ log →
-      Conforms m (run.judged n script log) r bytes
+      Conforms m (run.runFirst n script log) r bytes
   records-refused t number done same untouched =
       let ill : bus.wellFormed (machineOf m) ≡ false = sym e ∙ not-true b t in
       record {
@@ -54,7 +54,7 @@ module _ (m : Machine) (b : Bool) (e : b ≡ bus.wellFormed (machineOf m)) (scri
 
 -- How many records a run and a piece do.
 module _
-    (m : Machine) (script log bytes : List ℕ) (n k : ℕ) (r : Ran) (c : Conforms m (run.judged n script log) r bytes) where
+    (m : Machine) (script log bytes : List ℕ) (n k : ℕ) (r : Ran) (c : Conforms m (run.runFirst n script log) r bytes) where
   pub run-done :
       (limit : ℕ) → n ≡ min limit k → k ≡ min (run.whole script) (run.fitting log) →
       Conforms m (run.run limit script log) r bytes

@@ -10,9 +10,10 @@ use borrow.Author.Tests.{eq-eqb, ne-eqb}
 use Rattle.bus.specs.Refusal.{badRecord}
 use Rattle.bus.specs.Machine as bus
 use Rattle.bus.specs.Machine.{wellFormed}
-use Rattle.bus.specs.Call.{malformed, refusal, answer}
+use Rattle.bus.specs.Call.{refusal, answer}
 use Rattle.bus.specs.SlowRun.{answers, after}
 use Rattle.bus.specs.SlowRun.Laws.{answers-append, after-append, after-keeps}
+use Rattle.bus.specs.declared.machine.Call.the-variants.{Malformed}
 use Rattle.script.specs.Script as scripts
 use Rattle.script.specs.Script.{calls}
 use Rattle.script.specs.Script.Laws.{calls-add, tail-malformed}
@@ -22,7 +23,7 @@ use Rattle.script.specs.Run.{whole, withTail}
 use Rattle.script.specs.Program.{tailLog}
 
 -- A tail is answered with 10, on the machine that the records before it left.
-malformed-well : (m : bus.Machine) → wellFormed m ≡ true → answer malformed m ≡ bus.refused badRecord m
+malformed-well : (m : bus.Machine) → wellFormed m ≡ true → answer Malformed m ≡ bus.refused badRecord m
 unfolding answer refusal
 malformed-well m w = rw w refl
 
@@ -43,8 +44,8 @@ tail-answered script m well =
             ne-eqb (length script % scripts.recordLength) 0 z,
             calls-add (whole script) 1 script,
             tail-malformed script,
-            answers-append before (malformed ∷ []) m,
-            after-append before (malformed ∷ []) m,
+            answers-append before (Malformed ∷ []) m,
+            after-append before (Malformed ∷ []) m,
             malformed-well (after before m) kept,
             entries-append (answers before m) (bus.refused badRecord (after before m) ∷ []),
             append-nil (entry (bus.refused badRecord (after before m))),

@@ -1,28 +1,27 @@
 -- What follows from the definitions of a run and of a piece. Assumes nothing.
 use Prim.Native.Nat.{ℕ, _+_, _*_, _/_, _%_, _≤_, _<_, min}
-use mathlib.Core.Path.{_≡_, refl, ap, _∙_}
+use mathlib.Core.Path.{_≡_, refl, sym, ap, _∙_}
 use mathlib.Core.Bool.{Bool, true, false, cond}
-use mathlib.Core.List.{List, [], _∷_, _++_, append-nil}
+use mathlib.Core.List.{List, [], _++_, append-nil, flatMap}
 use native.Mathlib.Decide.{ℕ-discrete}
 use native.Mathlib.Omega.{arith}
 use native.Mathlib.Nat.{div-add-mod', mul-add-div, mul-add-mod-self-left}
 use lib.Dec.{eqb}
-use lib.ListN.{length, take, length-append}
-use lib.Seq.{take-at}
+use lib.ListN.{length, length-append}
 use borrow.Author.Tests.{eq-eqb, ne-eqb}
-use Rattle.devices.specs.Cases.{tested, chosen}
+use Rattle.devices.specs.Cases.{same, chosen}
 use Rattle.bus.specs.Machine as bus
 use Rattle.bus.specs.Machine.{wellFormed}
-use Rattle.bus.specs.SlowRun.{answers, after}
-use Rattle.bus.specs.SlowRun.Laws.{answers-append, after-append, length-answers, after-keeps}
-use Rattle.script.specs.Lent.{wrote}
+use Rattle.bus.specs.SlowRun.{answers}
+use Rattle.bus.specs.SlowRun.Laws.{length-answers}
+use Rattle.bus.specs.declared.machine.Call.{Call}
 use Rattle.script.specs.Script as scripts
 use Rattle.script.specs.Script.{calls}
 use Rattle.script.specs.Script.Laws.{length-calls, calls-append}
 use Rattle.script.specs.Log.{entryLength, entries}
-use Rattle.script.specs.Log.Laws.{length-entries, entries-append}
-use Rattle.script.specs.Run.{Ran, judged, whole, fitting, withTail}
-use Rattle.script.specs.Pieces.{Cut, uncut, cut, pieceLength, logLength}
+use Rattle.script.specs.Log.Laws.{length-entries}
+use Rattle.script.specs.Run.{Ran, runFirst, whole, fitting, withTail}
+use Rattle.script.specs.Pieces.{Cut, none, uncut, cut, pieceLength, logLength}
 
 -- What n records write.
 pub written-length :
@@ -30,46 +29,15 @@ pub written-length :
 written-length n script m =
     rw (length-entries (answers (calls n script) m), length-answers (calls n script) m, length-calls n script) refl
 
--- A run that has n records to do does them on a well-formed machine, and none on another. What it writes, and the machine
--- that it leaves, are the slow run's for the records that it does.
-pub record Did (n : ℕ) (script : List ℕ) (m : bus.Machine) (count : ℕ) (bytes : List ℕ) (last : bus.Machine) : Type 0 where
-  pub done : count ≡ cond (wellFormed m) n 0
-  pub log : take (entryLength * count) bytes ≡ entries (answers (calls count script) m)
-  pub machine : last ≡ after (calls count script) m
-
-pub runs-did :
-    (n : ℕ) (script log : List ℕ) (m : bus.Machine) (count : ℕ) (bytes : List ℕ) (last : bus.Machine) →
-    (let d = judged n script log m in
-    count ≡ d .done → bytes ≡ d .log → last ≡ d .machine →
-    Did n script m count bytes last)
-unfolding wrote
-runs-did n script log m count bytes last =
-    tested (wellFormed m)
-    (λ w. rw w (λ e f g. record {
-      done = rw w e;
-      log =
-          rw (e, f)
-          (take-at (entries (answers (calls n script) m)) _ (entryLength * n) (written-length n script m));
-      machine = rw e g;
-    }))
-    (λ ill. rw ill (λ e f g. record { done = rw ill e; log = rw e refl; machine = rw e g }))
-
--- Runs in order, each on the machine that the one before left, with what they wrote joined; `given` says how many records a
--- piece has.
-pub data Series (given : List ℕ → ℕ) : bus.Machine → List (List ℕ) → List ℕ → bus.Machine → Type 0 where
-  none : {m : bus.Machine} → Series given m [] [] m
-  next :
-      {m n last : bus.Machine} {piece bytes joined : List ℕ} {pieces : List (List ℕ)} {count : ℕ} →
-      Did (given piece) piece m count bytes n → Series given n pieces joined last →
-      Series given m (piece ∷ pieces) (take (entryLength * count) bytes ++ joined) last
-
--- Where the records of a script are those of its pieces, the runs over the pieces write what one run over the script
--- writes, and leave the same machine.
+-- Where the records of a script are those of its pieces, so are the calls. None is made on a machine that is not well formed.
 module _
-    (given : List ℕ → ℕ)
+    (given : List ℕ → ℕ) (well : Bool) (nothing : given [] ≡ 0)
     (adds :
     (script rest : List ℕ) → length script % scripts.recordLength ≡ 0 →
     (given script ≡ whole script) × (given (script ++ rest) ≡ whole script + given rest)) where
+  abbrev callsOf : List ℕ → List Call
+  callsOf script = calls (cond well (given script) 0) script
+
   split-calls :
       (well : Bool) (script rest : List ℕ) → length script % scripts.recordLength ≡ 0 →
       calls (cond well (given (script ++ rest)) 0) (script ++ rest) ≡
@@ -80,27 +48,12 @@ module _
       rw (adds script rest e .0, adds script rest e .1) (calls-append (whole script) (given rest) script rest long)
   split-calls false script rest e = refl
 
-  pub series-joined :
-      {m last : bus.Machine} {script joined : List ℕ} {pieces : List (List ℕ)} → Cut script pieces →
-      Series given m pieces joined last →
-      (let cs = calls (cond (wellFormed m) (given script) 0) script in
-      (joined ≡ entries (answers cs m)) × (last ≡ after cs m))
-  series-joined uncut (next {bytes} {count} d none) =
-      rw (← d .done) (append-nil (take (entryLength * count) bytes) ∙ d .log, d .machine)
-  series-joined {m} (cut {piece = script} {rest} e c) (next {n} {count} d s) =
-      let kept : wellFormed n ≡ wellFormed m = ap wellFormed (d .machine) ∙ after-keeps (calls count script) m in
-      let later = rw kept at (series-joined c s) in
-      let first = calls count script in
-      let others = calls (cond (wellFormed m) (given rest) 0) rest in
-      rw (
-        split-calls (wellFormed m) script rest e,
-        ← d .done,
-        answers-append first others m,
-        after-append first others m,
-        ← d .machine,
-        entries-append (answers first m) (answers others n),
-        d .log,
-      ) (ap (λ (l : List ℕ). entries (answers first m) ++ l) (later .0), later .1)
+  pub pieces-calls : {script : List ℕ} {pieces : List (List ℕ)} → Cut script pieces → flatMap callsOf pieces ≡ callsOf script
+  unfolding flatMap
+  pieces-calls none = rw (nothing, same {A = ℕ} well 0) refl
+  pieces-calls (uncut {piece}) = append-nil (callsOf piece)
+  pieces-calls (cut {piece} {rest} e c) =
+      ap (λ (others : List Call). callsOf piece ++ others) (pieces-calls c) ∙ sym (split-calls well piece rest e)
 
 -- Of whole records, and of pieces with their tail.
 adds-length :
@@ -143,7 +96,7 @@ piece-fits piece log h e = rw e (omega (arith, tail-starts (length piece)))
 -- The log has room for the records that are done.
 pub done-fits :
     (n : ℕ) (script log : List ℕ) (m : bus.Machine) (count : ℕ) →
-    count ≡ judged (min n (fitting log)) script log m .done →
+    count ≡ runFirst (min n (fitting log)) script log m .done →
     entryLength * count ≤ length log
 done-fits n script log m count =
     chosen (λ b (d : Ran). count ≡ d .done → entryLength * count ≤ length log) (wellFormed m) _ _

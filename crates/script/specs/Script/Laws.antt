@@ -7,7 +7,7 @@ use native.Mathlib.Nat.{zero-add, suc-add, div-add-mod', mod-lt}
 use lib.ListN.{length, take, drop, length-take, length-drop}
 use lib.Seq.{drop-drop, drop-at, take-append-le, drop-append-le}
 use borrow.Author.Tests.{lt-ltb}
-use Rattle.bus.specs.Call.{malformed}
+use Rattle.bus.specs.declared.machine.Call.the-variants.{Malformed}
 use Rattle.script.specs.Script.{recordLength, callIn, calls}
 
 pub length-calls : (n : ℕ) (script : List ℕ) → length (calls n script) ≡ n
@@ -49,7 +49,7 @@ calls-append n k script rest e =
 
 -- A tail is a record that is cut short.
 pub tail-malformed :
-    (script : List ℕ) → calls 1 (drop (recordLength * (length script / recordLength)) script) ≡ malformed ∷ []
+    (script : List ℕ) → calls 1 (drop (recordLength * (length script / recordLength)) script) ≡ Malformed ∷ []
 unfolding callIn
 tail-malformed script =
     let begun = recordLength * (length script / recordLength) in

@@ -40,7 +40,7 @@ use denote.Triple.Table.{entered, cited}
 use denote.Triple.Walked.{says, Stays, stay-ref, stay-none, walkOf, AllGo, goes-none, goes-ref, Walks, ends-at, walked, walk-meets}
 use denote.Triple.Clauses.{ensured, lasts}
 use denote.Exit.{yes}
-use Rattle.bus.specs.View.{callOf, Conforms}
+use Rattle.bus.specs.View.{Conforms}
 use Rattle.bus.specs.declared.machine.Machine.{Machine}
 use Rattle.bus.specs.declared.machine.Answer.{Answer}
 use Rattle.bus.specs.declared.machine.Call.{Call}
@@ -95,9 +95,9 @@ module _ {M : Type 1} (𝓤 : URA M) (H : Heap 𝓤) (A : Atoms 𝓤) (at-mem : 
   answered :
       (m : Machine) (c : Call) (a : Answer) →
       ent 𝓤 (ensured 𝓤 H A by-value.ended (by-value.clauses 𝓤 H A at-mem run) tt (m, (c, tt)) tt a)
-      (fact 𝓤 (Conforms m (callOf c) a))
+      (fact 𝓤 (Conforms m c a))
   answered m c a =
-      exE 𝓤 _ (λ ws. snd∗ 𝓤 (sem 𝓤 H A (lasts by-value.ended tt (m, (c, tt)) ws)) (fact 𝓤 (Conforms m (callOf c) a)))
+      exE 𝓤 _ (λ ws. snd∗ 𝓤 (sem 𝓤 H A (lasts by-value.ended tt (m, (c, tt)) ws)) (fact 𝓤 (Conforms m c a)))
 
   taken :
       (a : Answer) (m : Machine) →
@@ -120,7 +120,7 @@ module _
   Post = walkOf 𝓤 H A call.ended stayed (call.clauses 𝓤 H A at-mem run) .post (((κ, tt), (q, tt), tt, x, at), tt)
 
   exits :
-      (a : Answer) (v : Val) → Is answer.the-row a (v ∷ []) → Conforms m (callOf c) a → (n : Machine) → n ≡ a .machine →
+      (a : Answer) (v : Val) → Is answer.the-row a (v ∷ []) → Conforms m c a → (n : Machine) → n ≡ a .machine →
       ent 𝓤
       (sep 𝓤 (A .obs γ (machine.the-row .coded .code n)) (sep 𝓤 (A .bor κ (Body (mem machine.the-row) b o γ)) (A .lft κ q)))
       (Post v)
@@ -190,7 +190,7 @@ module _
         (later (some (λ (a : Answer). (‵ ftrue ⊛ ‵ (answer.the-row .own a (v ∷ []))) ⊛
         raw (ensured 𝓤 H A by-value.ended (by-value.clauses 𝓤 H A at-mem run) tt (m, (c, tt)) tt a)))) (id⊢ 𝓤 _) $
         await ! tt $ pick ! (λ a. split ! $ move ! (1 ∷ []) $
-        use1 W (raw (fact 𝓤 (Conforms m (callOf c) a))) (answered 𝓤 H A at-mem run m c a) $ heard ! _ (λ conforms.
+        use1 W (raw (fact 𝓤 (Conforms m c a))) (answered 𝓤 H A at-mem run m c a) $ heard ! _ (λ conforms.
         split ! $ drop ! $ facts ! answer.the-row (Is answer.the-row) (shows 𝓤 H A answer.the-row) a _ (λ is-a.
         land ! (from ! (stop !)) (init ! 6 refl (answer-lawful .typed a _ is-a .0)) $
         use0 W (raw (After 𝓤 H A at-mem run .pre (to-after a v))) (goes-after a v is-a) $

@@ -4,7 +4,7 @@ use Prim.Native.Nat.{_-_, _≤_}
 use mathlib.Core.Path.{_≡_, refl}
 use lib.ListN.{length, take}
 use Rattle.script.specs.Private as private
-use Rattle.script.specs.Lent.{wrote}
+use Rattle.script.specs.Buffer.{wrote}
 use Rattle.script.proofs.Writing.{none-written}
 use Rattle.script.proofs.entry.Longs.{next-long, all-longs}
 use Rattle.script.proofs.entry.put_longs.Statement.{statement}

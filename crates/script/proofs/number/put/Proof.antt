@@ -4,7 +4,7 @@ use Prim.Native.Nat.{_≤_}
 use mathlib.Core.Path.{_≡_, refl}
 use lib.ListN.{length}
 use Rattle.script.specs.Number.{encoded}
-use Rattle.script.specs.Lent.{wrote}
+use Rattle.script.specs.Buffer.{wrote}
 use Rattle.script.proofs.number.Digits.{put-next, put-none}
 use Rattle.script.proofs.number.put.Statement.{statement}
 use Rattle.script.proofs.number.put.Tie as tie

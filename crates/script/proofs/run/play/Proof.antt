@@ -5,7 +5,7 @@ use mathlib.Core.Path.{_≡_, refl}
 use lib.ListN.{length}
 use Rattle.bus.specs.SlowRun.{answers, after}
 use Rattle.bus.specs.View.{machineOf}
-use Rattle.script.specs.Lent.{wrote}
+use Rattle.script.specs.Buffer.{wrote}
 use Rattle.script.specs.Script.{calls}
 use Rattle.script.specs.Log.{entries}
 use Rattle.script.proofs.Writing.{none-written}

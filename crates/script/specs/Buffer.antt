@@ -1,4 +1,4 @@
--- Bytes of a lent slice: paper 01, "Refusal numbers".
+-- What a call writes into a buffer that it is lent: paper 01, "Refusal numbers".
 use Prim.Native.Nat.{ℕ, _+_}
 use mathlib.Core.List.{List, _++_}
 use lib.ListN.{length, take, drop}
