@@ -14,7 +14,6 @@ use Rattle.bus.specs.Machine as bus
 use Rattle.bus.specs.Machine.{wellFormed}
 use Rattle.bus.specs.SlowRun.{answers}
 use Rattle.bus.specs.SlowRun.Laws.{length-answers}
-use Rattle.bus.specs.declared.machine.Call.{Call}
 use Rattle.script.specs.Script as scripts
 use Rattle.script.specs.Script.{calls}
 use Rattle.script.specs.Script.Laws.{length-calls, calls-append}
@@ -29,14 +28,18 @@ pub written-length :
 written-length n script m =
     rw (length-entries (answers (calls n script) m), length-answers (calls n script) m, length-calls n script) refl
 
--- Where the records of a script are those of its pieces, so are the calls. None is made on a machine that is not well formed.
-module _
-    (given : List ℕ → ℕ) (well : Bool) (nothing : given [] ≡ 0)
-    (adds :
-    (script rest : List ℕ) → length script % scripts.recordLength ≡ 0 →
-    (given script ≡ whole script) × (given (script ++ rest) ≡ whole script + given rest)) where
-  abbrev callsOf : List ℕ → List Call
-  callsOf script = calls (cond well (given script) 0) script
+-- A count of the records in some bytes that goes by pieces: those of a script are those of its pieces.
+pub record Counts (given : List ℕ → ℕ) : Type 0 where
+  pub nothing : given [] ≡ 0
+  pub adds :
+      (script rest : List ℕ) → length script % scripts.recordLength ≡ 0 →
+      given (script ++ rest) ≡ whole script + given rest
+
+-- Then so are the calls. None is made on a machine that is not well formed.
+module _ (given : List ℕ → ℕ) (counts : Counts given) where
+  alone : (script : List ℕ) → length script % scripts.recordLength ≡ 0 → given script ≡ whole script
+  alone script e =
+      ap given (sym (append-nil script)) ∙ (counts .adds script [] e ∙ rw (counts .nothing) (omega arith))
 
   split-calls :
       (well : Bool) (script rest : List ℕ) → length script % scripts.recordLength ≡ 0 →
@@ -45,39 +48,42 @@ module _
   split-calls true script rest e =
       let long : length script ≡ scripts.recordLength * whole script =
       omega (arith, div-add-mod' (length script) scripts.recordLength) in
-      rw (adds script rest e .0, adds script rest e .1) (calls-append (whole script) (given rest) script rest long)
+      rw (alone script e, counts .adds script rest e) (calls-append (whole script) (given rest) script rest long)
   split-calls false script rest e = refl
 
-  pub pieces-calls : {script : List ℕ} {pieces : List (List ℕ)} → Cut script pieces → flatMap callsOf pieces ≡ callsOf script
+  pub pieces-calls :
+      (well : Bool) {script : List ℕ} {pieces : List (List ℕ)} → Cut script pieces →
+      flatMap (λ (piece : List ℕ). calls (cond well (given piece) 0) piece) pieces ≡
+      calls (cond well (given script) 0) script
   unfolding flatMap
-  pieces-calls none = rw (nothing, same {A = ℕ} well 0) refl
-  pieces-calls (uncut {piece}) = append-nil (callsOf piece)
-  pieces-calls (cut {piece} {rest} e c) =
-      ap (λ (others : List Call). callsOf piece ++ others) (pieces-calls c) ∙ sym (split-calls well piece rest e)
+  pieces-calls well none = rw (counts .nothing, same {A = ℕ} well 0) refl
+  pieces-calls well (uncut {piece}) = append-nil (calls (cond well (given piece) 0) piece)
+  pieces-calls well (cut {piece} {rest} e c) = rw (pieces-calls well c) (sym (split-calls well piece rest e))
 
--- Of whole records, and of pieces with their tail.
+-- Whole records are counted so, and pieces with their tail.
 adds-length :
     (script rest : List ℕ) → length script % scripts.recordLength ≡ 0 →
     length (script ++ rest) ≡ scripts.recordLength * whole script + length rest
 adds-length script rest e = rw length-append (omega (arith, div-add-mod' (length script) scripts.recordLength))
 
-pub whole-adds :
-    (script rest : List ℕ) → length script % scripts.recordLength ≡ 0 →
-    (whole script ≡ whole script) × (whole (script ++ rest) ≡ whole script + whole rest)
-whole-adds script rest e =
-    (refl, rw (adds-length script rest e) (mul-add-div (omega arith) (whole script) (length rest)))
+pub whole-counts : Counts whole
+whole-counts =
+    record {
+      nothing = refl;
+      adds = λ script rest e. rw (adds-length script rest e) (mul-add-div (omega arith) (whole script) (length rest));
+    }
 
-pub tail-adds :
-    (script rest : List ℕ) → length script % scripts.recordLength ≡ 0 →
-    (withTail script ≡ whole script) × (withTail (script ++ rest) ≡ whole script + withTail rest)
-tail-adds script rest e = (
-  rw e (omega arith),
-  rw (
-    adds-length script rest e,
-    mul-add-div {m = scripts.recordLength} (omega arith) (whole script) (length rest),
-    mul-add-mod-self-left scripts.recordLength (whole script) (length rest),
-  ) (omega arith),
-)
+pub tail-counts : Counts withTail
+tail-counts =
+    record {
+      nothing = refl;
+      adds = λ script rest e.
+          rw (
+            adds-length script rest e,
+            mul-add-div {m = scripts.recordLength} (omega arith) (whole script) (length rest),
+            mul-add-mod-self-left scripts.recordLength (whole script) (length rest),
+          ) (omega arith);
+    }
 
 -- Each record of a piece, its tail too, begins in it; so the log of a piece of the program's input fits.
 pub tail-starts :

@@ -1,6 +1,6 @@
 -- What follows from the words of the claims: a step is the slow run of its calls, and a chain of steps that of all of them. Assumes
 -- nothing.
-use Prim.Native.Nat.{ℕ, zero, suc, _+_, _*_, _%_, min}
+use Prim.Native.Nat.{ℕ, zero, suc, _*_, min}
 use mathlib.Core.Path.{_≡_, refl, ap, _∙_}
 use mathlib.Core.Bool.{Bool, true, cond}
 use mathlib.Core.List.{List, [], _∷_, _++_, flatMap}
@@ -13,12 +13,12 @@ use Rattle.bus.specs.SlowRun.Laws.{answers-append, after-append, length-answers
 use Rattle.bus.specs.View.{machineOf}
 use Rattle.bus.specs.declared.machine.Machine.{Machine}
 use Rattle.bus.specs.declared.machine.Call.{Call}
-use Rattle.script.specs.Script.{recordLength, calls}
+use Rattle.script.specs.Script.{calls}
 use Rattle.script.specs.Script.Laws.{length-calls}
 use Rattle.script.specs.Log.{entryLength, entries}
 use Rattle.script.specs.Log.Laws.{first-entry, entries-append}
 use Rattle.script.specs.Run.{runFirst, whole, fitting, run, withTail, piece}
-use Rattle.script.specs.Run.Laws as laws
+use Rattle.script.specs.Run.Laws.{Counts, pieces-calls, whole-counts, tail-counts}
 use Rattle.script.specs.Pieces.{Cut}
 use Rattle.script.specs.Program.{tailLog}
 use Rattle.script.specs.Program.Laws.{tail-answered}
@@ -123,11 +123,7 @@ entries-both xs ys rs ss e f = rw (entries-append rs ss, e, f) refl
 -- A script in pieces: where the run of each piece is the slow run of the records that are given in it, the runs of all of them are
 -- that of the script's.
 module _
-    (given : List ℕ → ℕ) (nothing : given [] ≡ 0)
-    (adds :
-    (script rest : List ℕ) → length script % recordLength ≡ 0 →
-    (given script ≡ whole script) × (given (script ++ rest) ≡ whole script + given rest))
-    (Does : Machine → List ℕ → List ℕ → Machine → Type 0)
+    (given : List ℕ → ℕ) (counts : Counts given) (Does : Machine → List ℕ → List ℕ → Machine → Type 0)
     (each :
     (well : Bool) (m n : Machine) (script written : List ℕ) → wellFormed (machineOf m) ≡ well → Does m script written n →
     slowLog (calls (cond well (given script) 0) script) m written n) where
@@ -137,7 +133,7 @@ module _
       slowLog (calls (cond (wellFormed (machineOf m)) (given script) 0) script) m joined end
   pieces-slow {m} cuts runs =
       let well = wellFormed (machineOf m) in
-      rw (laws.pieces-calls given well nothing adds cuts) at
+      rw (pieces-calls given counts well cuts) at
       (chain-slow Does (λ (p : List ℕ). calls (cond well (given p) 0) p) (λ written rs. written ≡ entries rs) well refl
       entries-both (each well) refl runs)
 
@@ -145,7 +141,7 @@ pub runs-slow :
     {m end : Machine} {script joined : List ℕ} {pieces : List (List ℕ)} → Cut script pieces →
     Chain WholeRun m pieces joined end →
     slowLog (calls (cond (wellFormed (machineOf m)) (whole script) 0) script) m joined end
-runs-slow = pieces-slow whole refl laws.whole-adds WholeRun whole-run-slow
+runs-slow = pieces-slow whole whole-counts WholeRun whole-run-slow
 
 -- What the program logs for the pieces of its input, from a well-formed machine on: the whole records, and the tail.
 pub inputs-slow :
@@ -155,6 +151,6 @@ pub inputs-slow :
     (joined ≡ entries (answers cs (machineOf m)) ++ tailLog script (after cs (machineOf m))) ×
     (machineOf end ≡ after cs (machineOf m)))
 inputs-slow {m} {script} well cuts pieces =
-    let parts = rw well at (pieces-slow withTail refl laws.tail-adds WholePiece whole-piece-slow cuts pieces) in
+    let parts = rw well at (pieces-slow withTail tail-counts WholePiece whole-piece-slow cuts pieces) in
     let tail = tail-answered script (machineOf m) well in
     (parts .0 ∙ tail .0, parts .1 ∙ tail .1)
