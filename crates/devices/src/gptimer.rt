@@ -254,7 +254,7 @@ impl Timer {
 
     // An underflow has a pulse where interrupts are enabled.
     fn pulses(self, underflows: u64) -> u64
-        ensures { λ r. ⌜ r ≡ direct.pulsesOf self underflows ⌝ }
+        ensures { λ r. ⌜ r ≡ direct.underflowPulses self underflows ⌝ }
     {
         if self.ie { underflows } else { 0 }
     }

@@ -10,7 +10,7 @@ use borrow.Author.Tests.{lt-ltb, le-ltb}
 use Rattle.devices.specs.Cases.{same}
 use Rattle.devices.specs.Gptimer.{withCounter, withIp, withEn}
 use Rattle.devices.specs.Gptimer.Direct.{falls, countsLeft, atRest, stands, counted}
-use Rattle.devices.specs.Gptimer.Direct.{pulsesOf, countsIn, countedTimer, servedTimer}
+use Rattle.devices.specs.Gptimer.Direct.{underflowPulses, countsIn, countedTimer, servedTimer}
 use Rattle.devices.specs.Gptimer.Direct.Time.{falls-wrap}
 use Rattle.devices.specs.declared.gptimer.Timer.{Timer}
 use Rattle.devices.specs.declared.gptimer.Served.{Served}
@@ -21,7 +21,7 @@ module _ (k : ℕ) (t : Timer) where
       _≡_ {A = Served} (record { underflows = underflows; pulses = pulses; timer = after }) (countedTimer k t)
 
   counts-to :
-      (n q : ℕ) (after : Timer) → q ≡ pulsesOf t n → record { underflows = n; timer = after } ≡ counted k t →
+      (n q : ℕ) (after : Timer) → q ≡ underflowPulses t n → record { underflows = n; timer = after } ≡ counted k t →
       Counts n q after
   counts-to n q after e f = rw (← f, e) refl
 
@@ -42,7 +42,7 @@ module _ (k : ℕ) (t : Timer) where
   pub restarting :
       (f p w q : ℕ) → t .en ≡ true → t .rs ≡ true → f ≡ countsLeft (t .counter) → f ≤ k →
       p ≡ countsLeft (t .reload) → (w + (k - f) % p) % 2 ^ 32 ≡ t .reload → w < 2 ^ 32 →
-      q ≡ pulsesOf t (1 + (k - f) / p) →
+      q ≡ underflowPulses t (1 + (k - f) / p) →
       Counts (1 + (k - f) / p) q (withIp true (withCounter w t))
   unfolding counted stands
   restarting f p w q on rs left l again wrap small e =
@@ -51,7 +51,7 @@ module _ (k : ℕ) (t : Timer) where
       counts-to _ q _ e (rw (on, rs, past, ← left, ← again, ← fell, one-add) refl)
 
   pub stopping :
-      (f q : ℕ) → t .en ≡ true → t .rs ≡ false → f ≡ countsLeft (t .counter) → f ≤ k → q ≡ pulsesOf t 1 →
+      (f q : ℕ) → t .en ≡ true → t .rs ≡ false → f ≡ countsLeft (t .counter) → f ≤ k → q ≡ underflowPulses t 1 →
       Counts 1 q (withIp true (withEn false (withCounter atRest t)))
   unfolding counted stands
   stopping f q on rs left l e =

@@ -30,7 +30,7 @@ well-by : (p : Port) → bit FA (p .control) ≡ true → length (p .queue) ≤ 
 unfolding wellFormed
 well-by p c q = rw c (le-leb (length (p .queue)) depth q)
 
--- an answer either-well by a test
+-- whichever of two answers a test chooses, the port after it is well formed
 either-well :
     (b : Bool) (x y : Answer) → (b ≡ true → wellFormed (x .port) ≡ true) → (b ≡ false → wellFormed (y .port) ≡ true) →
     wellFormed (cond b x y .port) ≡ true

@@ -73,8 +73,9 @@ counted k t =
     (stands (countsLeft (t .counter)) 1 (fallen t) (stopped t) k))
     (idle t)
 
-abbrev pub pulsesOf : Timer → ℕ → ℕ
-pulsesOf t underflows = cond (t .ie) underflows 0
+-- the pulses of a timer that underflows so often
+abbrev pub underflowPulses : Timer → ℕ → ℕ
+underflowPulses t underflows = cond (t .ie) underflows 0
 
 -- how often a timer counts in some ticks, `before` being how often timer n-1 underflowed in them
 abbrev pub countsIn : ℕ → ℕ → Timer → ℕ
@@ -83,7 +84,11 @@ countsIn ticks before t = cond (t .ch) before ticks
 -- what the code answers for some counts, and for some ticks
 abbrev pub countedTimer : ℕ → Timer → Served
 countedTimer k t =
-    record { underflows = counted k t .underflows; pulses = pulsesOf t (counted k t .underflows); timer = counted k t .timer }
+    record {
+      underflows = counted k t .underflows;
+      pulses = underflowPulses t (counted k t .underflows);
+      timer = counted k t .timer;
+    }
 
 abbrev pub servedTimer : ℕ → ℕ → Timer → Served
 servedTimer ticks before t = countedTimer (countsIn ticks before t) t
@@ -96,7 +101,7 @@ served ticks before (t ∷ ts) =
 abbrev pub servedPulses : ℕ → ℕ → List Timer → List ℕ
 servedPulses ticks before [] = []
 servedPulses ticks before (t ∷ ts) =
-    pulsesOf t (counted (countsIn ticks before t) t .underflows) ∷
+    underflowPulses t (counted (countsIn ticks before t) t .underflows) ∷
     servedPulses ticks (counted (countsIn ticks before t) t .underflows) ts
 
 -- the prescaler in n cycles

@@ -18,12 +18,12 @@ use Rattle.devices.specs.declared.gptimer.Gptimer.{Gptimer}
 use Rattle.devices.specs.declared.gptimer.Elapsed.{Elapsed}
 
 -- Two spans, one after the other.
-abbrev pub joined : Elapsed → Elapsed → Elapsed
-joined e f =
+abbrev pub consecutive : Elapsed → Elapsed → Elapsed
+consecutive e f =
     record { cycles = e .cycles + f .cycles; pulses = addPulses (e .pulses) (f .pulses); unit = f .unit }
 
 -- Time may be cut anywhere: advancing a and then b is advancing a + b, and each timer's pulses add up.
-pub advance-cut : (a b : ℕ) (u : Gptimer) → advance (a + b) u ≡ joined (advance a u) (advance b (advance a u .unit))
+pub advance-cut : (a b : ℕ) (u : Gptimer) → advance (a + b) u ≡ consecutive (advance a u) (advance b (advance a u .unit))
 unfolding advance
 advance-cut zero b u = rw (zero-add, zero-add, none-advance b u) refl
 advance-cut (suc a) b u = rw (suc-add, advance-cut a b (cycle u), suc-add, adds-assoc) refl

@@ -12,8 +12,8 @@ use lib.ListN.{length}
 use borrow.Author.Tests.{le-leb, lt-leb, leb-false}
 use Rattle.devices.specs.Gptimer.{place, anyPulse, advance, skip}
 use Rattle.devices.specs.Gptimer.Direct.{stands, never, endsAt, onceAt, countsLeft, Counted, idle, fallen, restarted}
-use Rattle.devices.specs.Gptimer.Direct.{stopped, counted, countsIn, pulsesOf, servedPulses, ticksIn, period, elapsed}
-use Rattle.devices.specs.Gptimer.Direct.{due, dueTick, pulseTick, firstTick, tickCycle}
+use Rattle.devices.specs.Gptimer.Direct.{stopped, counted, countsIn, underflowPulses, servedPulses, ticksIn}
+use Rattle.devices.specs.Gptimer.Direct.{period, elapsed, due, dueTick, pulseTick, firstTick, tickCycle}
 use Rattle.devices.specs.Gptimer.Direct.Countdown.{Due, due-through, not-due, ends-due, once-due, earlier}
 use Rattle.devices.specs.Gptimer.Direct.Countdown.{stands-map}
 use Rattle.devices.specs.Gptimer.Direct.Time.{left-pos, servedPulses-none, advance-elapsed}
@@ -76,7 +76,7 @@ prescaler-due k u small = ends-due k (suc (u .scaler)) small (omega arith) (peri
 -- The first pulse of the timer at place n, and of all four.
 pulse-due :
     (ticks n : ℕ) (ts : List Timer) → ticks < never →
-    ltb 0 (pulsesOf (place ts n) (underflowsAt ticks ts (suc n))) ≡ leb (pulseTick ts n) ticks
+    ltb 0 (underflowPulses (place ts n) (underflowsAt ticks ts (suc n))) ≡ leb (pulseTick ts n) ticks
 pulse-due ticks n ts small =
     rw add-one
     (by-flag (underflowsAt ticks ts (suc n)) (dueTick ts (suc n) 1) (place ts n .ie)
