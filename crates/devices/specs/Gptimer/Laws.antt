@@ -1,5 +1,5 @@
 -- Theorems on the definitions of the timer unit, for every unit and spans of every length. Assumes nothing.
-use Prim.Native.Nat.{ℕ, zero, suc, _+_, _<_, _≤_}
+use Prim.Native.Nat.{ℕ, zero, suc, _+_, _-_, _<_, _≤_}
 use mathlib.Core.Path.{_≡_, refl, ap, sym, _∙_}
 use mathlib.Core.Bool.{Bool, true, false, cond, _&&_, _||_, or-false, or-true, or-assoc, true≢false}
 use mathlib.Core.List.{List, [], _∷_}
@@ -35,23 +35,57 @@ advance-cycles zero u = refl
 advance-cycles (suc n) u = ap suc (advance-cycles n (cycle u))
 
 -- "An idle skip takes a limit and passes the fewest cycles, one or more, whose last has a pulse; if there is none within
--- the limit it passes the limit." No fewer cycles have a pulse, and if fewer than the limit are passed, they have one: it
--- is in the last of them. (`advance 0` has none, so they are one or more.)
+-- the limit it passes the limit." It is an advance by the cycles that it passes; they are no more than the limit; unless
+-- the limit is 0 they are one or more; no fewer cycles have a pulse; and if they are fewer than the limit, the last of them
+-- has one.
 pub record Least (limit : ℕ) (u : Gptimer) (e : Elapsed) : Type 0 where
   pub advances : e ≡ advance (e .cycles) u
   pub within : e .cycles ≤ limit
+  pub some : 0 < limit → 0 < e .cycles
   pub quiet : (k : ℕ) → k < e .cycles → anyPulse (advance k u .pulses) ≡ false
-  pub pulse : e .cycles < limit → anyPulse (advance (e .cycles) u .pulses) ≡ true
+  pub pulse : e .cycles < limit → anyPulse (cyclePulses (advance (e .cycles - 1) u .unit)) ≡ true
+
+-- Cycles that have a pulse are one or more, and it is in fewer of them or in the last.
+pulse-some : (n : ℕ) (u : Gptimer) → anyPulse (advance n u .pulses) ≡ true → 0 < n
+unfolding advance
+pulse-some zero u e = absurd (true≢false (sym e ∙ any-none (u .timers)))
+pulse-some (suc n) u e = omega arith
+
+pulse-last :
+    (n : ℕ) (u : Gptimer) → 0 < n →
+    anyPulse (advance n u .pulses) ≡
+    (anyPulse (advance (n - 1) u .pulses) || anyPulse (cyclePulses (advance (n - 1) u .unit)))
+unfolding advance
+pulse-last n u l =
+    let whole : n ≡ n - 1 + 1 = omega arith in
+    ap (λ (k : ℕ). anyPulse (advance k u .pulses)) whole ∙
+    rw (advance-cut (n - 1) 1 u, any-add, any-add, any-none, or-false) refl
+
+-- It comes to the same if `pulse` speaks of all the cycles in place of the last.
+module _ (limit : ℕ) (u : Gptimer) (e : Elapsed) where
+  pub least-by :
+      e ≡ advance (e .cycles) u → e .cycles ≤ limit →
+      ((k : ℕ) → k < e .cycles → anyPulse (advance k u .pulses) ≡ false) →
+      (e .cycles < limit → anyPulse (advance (e .cycles) u .pulses) ≡ true) → Least limit u e
+  least-by advances within quiet pulse =
+      record {
+        advances = advances;
+        within = within;
+        some = λ l. elim (decLt 0 (e .cycles)) [ yes m ↦ m | no m ↦ later (omega arith) ];
+        quiet = quiet;
+        pulse = λ l. rw (pulse-last (e .cycles) u (later l), quiet (e .cycles - 1) (omega (arith, later l))) at (pulse l);
+      }
+    where
+      later : e .cycles < limit → 0 < e .cycles
+      later l = pulse-some (e .cycles) u (pulse l)
+
+  least-pulse : Least limit u e → e .cycles < limit → anyPulse (advance (e .cycles) u .pulses) ≡ true
+  least-pulse p l = rw (pulse-last (e .cycles) u (p .some (omega arith)), p .pulse l, or-true) refl
 
 pub skip-least : (limit : ℕ) (u : Gptimer) → Least limit u (skip limit u)
 unfolding skip advance
 skip-least zero u =
-    record {
-      advances = refl;
-      within = omega arith;
-      quiet = λ k l. absurd (omega arith);
-      pulse = λ l. absurd (omega arith);
-    }
+    least-by zero u _ refl (omega arith) (λ k l. absurd (omega arith)) (λ l. absurd (omega arith))
 skip-least (suc n) u = by-test (anyPulse (cyclePulses u)) refl (skip-least n (cycle u))
   where
     first :
@@ -63,25 +97,15 @@ skip-least (suc n) u = by-test (anyPulse (cyclePulses u)) refl (skip-least n (cy
         (b : Bool) → anyPulse (cyclePulses u) ≡ b → Least n (cycle u) (skip n (cycle u)) →
         Least (suc n) u (cycleThen u (cond b (noCycle (cycle u)) (skip n (cycle u))))
     by-test true e r =
-        record {
-          advances = refl;
-          within = omega arith;
-          quiet = λ k l. let z : k ≡ 0 = omega arith in rw z (any-none (u .timers));
-          pulse = λ l. first true 0 e;
-        }
+        least-by (suc n) u _ refl (omega arith)
+        (λ k l. let z : k ≡ 0 = omega arith in rw z (any-none (u .timers))) (λ l. first true 0 e)
     by-test false e r =
-        record {
-          advances = ap (cycleThen u) (r .advances);
-          within = omega (arith, r .within);
-          quiet = quiet-then r;
-          pulse = λ l. first false (skip n (cycle u) .cycles) e ∙ r .pulse (omega arith);
-        }
+        least-by (suc n) u _ (ap (cycleThen u) (r .advances)) (omega (arith, r .within)) quiet
+        (λ l. first false (skip n (cycle u) .cycles) e ∙ least-pulse n (cycle u) _ r (omega arith))
       where
-        quiet-then :
-            Least n (cycle u) (skip n (cycle u)) → (k : ℕ) → k < suc (skip n (cycle u) .cycles) →
-            anyPulse (advance k u .pulses) ≡ false
-        quiet-then r zero l = any-none (u .timers)
-        quiet-then r (suc k) l = first false k e ∙ r .quiet k (omega arith)
+        quiet : (k : ℕ) → k < suc (skip n (cycle u) .cycles) → anyPulse (advance k u .pulses) ≡ false
+        quiet zero l = any-none (u .timers)
+        quiet (suc k) l = first false k e ∙ r .quiet k (omega arith)
 
 -- No other span does so.
 pub least-unique : (limit : ℕ) (u : Gptimer) (e f : Elapsed) → Least limit u e → Least limit u f → e ≡ f
@@ -99,7 +123,7 @@ least-unique limit u e f p q =
     sooner : (e f : Elapsed) → Least limit u e → Least limit u f → e .cycles < f .cycles → ⊥
     sooner e f p q l =
         let reaches : f .cycles ≤ limit = q .within in
-        true≢false (sym (p .pulse (omega arith)) ∙ q .quiet (e .cycles) l)
+        true≢false (sym (least-pulse limit u e p (omega arith)) ∙ q .quiet (e .cycles) l)
 
 -- A skip ends at its first pulse, so each timer has one pulse or none in it.
 pub skip-pulses : (limit i : ℕ) (u : Gptimer) → getD (skip limit u .pulses) i 0 ≤ 1

@@ -18,7 +18,7 @@ use Rattle.devices.specs.Gptimer.Direct.Countdown.{Due, due-through, not
 use Rattle.devices.specs.Gptimer.Direct.Countdown.{stands-map}
 use Rattle.devices.specs.Gptimer.Direct.Time.{left-pos, servedPulses-none, advance-elapsed}
 use Rattle.devices.specs.Gptimer.Pulses.{any-none}
-use Rattle.devices.specs.Gptimer.Laws.{advance-cycles, skip-least, least-unique}
+use Rattle.devices.specs.Gptimer.Laws.{advance-cycles, least-by, skip-least, least-unique}
 use Rattle.devices.specs.declared.gptimer.Timer.{Timer}
 use Rattle.devices.specs.declared.gptimer.Gptimer.{Gptimer}
 
@@ -151,9 +151,6 @@ skip-advance limit u whole small =
         let n : ℕ = min d limit in
         let c : advance n u .cycles ≡ n = advance-cycles n u in
         least-unique limit u _ _ (skip-least limit u)
-        (record {
-          advances = ap (λ (k : ℕ). advance k u) (sym c);
-          within = omega arith;
-          quiet = λ k l. by k (omega arith) ∙ lt-leb d k (omega arith);
-          pulse = λ l. rw c (by n (omega arith) ∙ le-leb d n (omega arith));
-        })
+        (least-by limit u _ (ap (λ (k : ℕ). advance k u) (sym c)) (omega arith)
+        (λ k l. by k (omega arith) ∙ lt-leb d k (omega arith))
+        (λ l. rw c (by n (omega arith) ∙ le-leb d n (omega arith))))
