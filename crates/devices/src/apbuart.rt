@@ -104,6 +104,7 @@ impl Apbuart {
 
     pub const RESET_LEVEL: bool = false;
 
+    // Where the empty queue has its head, and what its places hold, is not decided (`specs/Apbuart/View.antt`).
     pub fn reset_state() -> Self
         ensures { λ r. ⌜ portOf r ≡ uart.resetState ⌝ }
     {

@@ -68,6 +68,11 @@ impl Timer {
     // Chain: the timer counts the underflows of the one before it; timer 1 ignores it.
     pub const CH: u32 = 0x20;
 
+    // Timer 4 at reset: its counter and reload, and its control, EN and IE.
+    pub const RESET_COUNTER_4: u32 = 0xFFFF;
+
+    pub const RESET_CONTROL_4: u32 = 0x09;
+
     // Timers 1 to 3 at reset.
     pub(crate) fn reset_state() -> Self
         ensures { λ r. ⌜ r ≡ gpt.zeroTimer ⌝ }
@@ -88,13 +93,13 @@ impl Timer {
         ensures { λ r. ⌜ r ≡ gpt.resetTimer4 ⌝ }
     {
         Timer {
-            counter: 0xFFFF,
-            reload: 0xFFFF,
-            en: true,
-            rs: false,
-            ie: true,
-            ip: false,
-            ch: false,
+            counter: Self::RESET_COUNTER_4,
+            reload: Self::RESET_COUNTER_4,
+            en: Self::RESET_CONTROL_4 / Self::EN % 2 == 1,
+            rs: Self::RESET_CONTROL_4 / Self::RS % 2 == 1,
+            ie: Self::RESET_CONTROL_4 / Self::IE % 2 == 1,
+            ip: Self::RESET_CONTROL_4 / Self::IP % 2 == 1,
+            ch: Self::RESET_CONTROL_4 / Self::CH % 2 == 1,
         }
     }
 

@@ -1,4 +1,8 @@
--- What of the code's structs counts, and the contract of each call on a port.
+-- What of the code's structs counts, and the contract of each call on a port. What no definition decides, after an accepted
+-- call and in what `Apbuart::reset_state` makes, are the queue's `head` and its places that hold no waiting byte. What holds
+-- of them anyway: the waiting bytes stand from `head` on, oldest first; the view, and so that of every later answer, is the
+-- same wherever that is; `head` counts modulo the depth, so that no value of it is ill formed; and a refused call leaves them
+-- as they were (`same`).
 use mathlib.Core.Path.{_≡_}
 use Rattle.devices.specs.Refusal.{notRefused}
 use Rattle.devices.specs.Apbuart.{Port, Answer}
