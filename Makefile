@@ -1,9 +1,13 @@
 # make demo   prove the crates, say what is proved, and play the bench examples
 # make test   every check, from nothing; the last line is 'N passed, M failed'
-.PHONY: demo test
+# make edits CRATE=bus   the wider set of that crate's must-fail edits, which make test passes over; without CRATE, of every crate
+.PHONY: demo test edits
 
 demo:
 	@tools/demo
 
 test:
 	@tools/test
+
+edits:
+	@tools/edits $(CRATE)
