@@ -1,0 +1,48 @@
+// A timer unit's calls. Each is written with its answer.
+use crate::line::Line;
+use crate::line::word;
+use crate::text::fill;
+use devices::gptimer::Elapsed;
+use devices::gptimer::Gptimer;
+
+pub(crate) fn play(unit: Gptimer, line: Line) -> Gptimer {
+    name(line);
+    call(unit, line)
+}
+
+fn name(line: Line) {
+    let n = line.numbers();
+    let letter = line.letter;
+    match letter {
+        b'r' => fill(b"  read $", n),
+        b'w' => fill(b"  write $ #\n", n),
+        b'a' => fill(b"  advance %", n),
+        b's' => fill(b"  skip %", n),
+        _ => fill(b"  ?\n", n),
+    }
+}
+
+fn call(unit: Gptimer, line: Line) -> Gptimer {
+    let letter = line.letter;
+    match letter {
+        b'r' => read(unit, unit.read(word(line.first))),
+        b'w' => unit.write(word(line.first), word(line.second)),
+        b'a' => passed(unit.advance(line.first)),
+        b's' => passed(unit.skip(line.first)),
+        _ => unit,
+    }
+}
+
+// Writes the value read and hands on the unit.
+fn read(unit: Gptimer, value: u32) -> Gptimer {
+    fill(b": #\n", [value as u64, 0, 0, 0]);
+    unit
+}
+
+// Writes what a span came to and hands on the unit.
+fn passed(answer: Elapsed) -> Gptimer {
+    fill(b": cycles %", [answer.cycles, 0, 0, 0]);
+    let pulses = answer.pulses;
+    fill(b", pulses % % % %\n", pulses);
+    answer.unit
+}

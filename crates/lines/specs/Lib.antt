@@ -1,2 +1,0 @@
--- What the contracts of this crate cite: how a line is read.
-pub mod Line
