@@ -1,13 +1,9 @@
-// A million calls on the compiled timer unit, each on the unit that the one before returned, for `tools/bench` to time. The
-// first byte of standard input says which calls. The program writes the cycles of all of them and the counters of timers 1
-// and 4 after them, so that none can be left out.
+// Calls of the timer unit. Written are the cycles of all of them and the counters of timers 1 and 4 after them.
+use crate::CALLS;
+use crate::number;
 use devices::gptimer::Elapsed;
 use devices::gptimer::Gptimer;
 use devices::gptimer::Timer;
-use libc::STDIN_FILENO;
-use libc::STDOUT_FILENO;
-
-const CALLS: u64 = 1_000_000;
 
 // What a call does.
 const NOTHING: u8 = 0;
@@ -16,10 +12,8 @@ const ADVANCE: u8 = 1;
 
 const SKIP: u8 = 2;
 
-fn main() {
-    let mut input = io::buffer();
-    io::read_full(STDIN_FILENO, &mut input);
-    say(chosen(input[0]));
+pub(crate) fn play(which: u8) {
+    say(chosen(which));
 }
 
 fn chosen(which: u8) -> Elapsed {
@@ -75,14 +69,6 @@ fn timer(reload: u32, ch: bool, ie: bool) -> Timer {
     }
 }
 
-fn unmoved(unit: Gptimer) -> Elapsed {
-    Elapsed {
-        cycles: 0,
-        pulses: [0; 4],
-        unit,
-    }
-}
-
 fn calls(start: Gptimer, what: u8, cycles: u64) -> Elapsed {
     let mut unit = start;
     let mut passed = 0;
@@ -108,13 +94,16 @@ fn call(unit: Gptimer, what: u8, cycles: u64) -> Elapsed {
     }
 }
 
+fn unmoved(unit: Gptimer) -> Elapsed {
+    Elapsed {
+        cycles: 0,
+        pulses: [0; 4],
+        unit,
+    }
+}
+
 fn say(total: Elapsed) {
     number(total.cycles);
     number(total.unit.read(Gptimer::STRIDE) as u64);
     number(total.unit.read(4 * Gptimer::STRIDE) as u64);
-}
-
-fn number(n: u64) {
-    io::print_decimal(STDOUT_FILENO, n);
-    io::write_all(STDOUT_FILENO, b"\n");
 }

@@ -1,21 +1,11 @@
-// A million calls on the compiled machine, each on the machine that the one before returned, for `tools/bench` to time. The
-// first byte of standard input says which calls. The program writes the sum of their numbers, of the values that they read
-// and of the cycles that they passed, and then what it reads in a port and in the timer unit after them, so that none can be
-// left out.
+// Calls of the machine. Written are the sum of their numbers, of the values that they read and of the cycles that they
+// passed, and then what is read in a port and in the timer unit after them.
+use crate::CALLS;
+use crate::number;
 use bus::machine::Answer;
 use bus::machine::Machine;
-use libc::STDIN_FILENO;
-use libc::STDOUT_FILENO;
 
-const CALLS: u64 = 1_000_000;
-
-fn main() {
-    let mut input = io::buffer();
-    io::read_full(STDIN_FILENO, &mut input);
-    calls(input[0]);
-}
-
-fn calls(which: u8) {
+pub(crate) fn play(which: u8) {
     let mut machine = Machine::reset_state();
     let mut sum = 0;
     let mut left = CALLS;
@@ -28,26 +18,6 @@ fn calls(which: u8) {
         sum = std::num::wrapping_add_u64(sum, answer.cycles);
     }
     say(sum, machine);
-}
-
-fn say(sum: u64, machine: Machine) {
-    number(sum);
-    number(machine.read(scaler(0), 4).value as u64);
-    number(machine.read(0x8000_0300, 4).value as u64);
-}
-
-fn number(n: u64) {
-    io::print_decimal(STDOUT_FILENO, n);
-    io::write_all(STDOUT_FILENO, b"\n");
-}
-
-// CONTROL and SCALER of port 1, 2, 3, 4 or 5.
-fn control(turn: u64) -> u32 {
-    0x8010_0108 + (turn % 5) as u32 * 0x100
-}
-
-fn scaler(turn: u64) -> u32 {
-    0x8010_010C + (turn % 5) as u32 * 0x100
 }
 
 fn call(machine: Machine, which: u8, turn: u64) -> Answer {
@@ -68,6 +38,15 @@ fn call(machine: Machine, which: u8, turn: u64) -> Answer {
     }
 }
 
+// CONTROL and SCALER of port 1, 2, 3, 4 or 5.
+fn control(turn: u64) -> u32 {
+    0x8010_0108 + (turn % 5) as u32 * 0x100
+}
+
+fn scaler(turn: u64) -> u32 {
+    0x8010_010C + (turn % 5) as u32 * 0x100
+}
+
 fn unmoved(machine: Machine) -> Answer {
     Answer {
         refusal: 0,
@@ -79,4 +58,10 @@ fn unmoved(machine: Machine) -> Answer {
         pulses: [0; 4],
         machine,
     }
+}
+
+fn say(sum: u64, machine: Machine) {
+    number(sum);
+    number(machine.read(scaler(0), 4).value as u64);
+    number(machine.read(0x8000_0300, 4).value as u64);
 }

@@ -1,7 +1,7 @@
 -- The loop counts down. Assumes nothing.
 use borrow.Author.Needs.{needs}
-use Rattle.gptimer_bench.proofs.calls.Statement.{statement}
-use Rattle.gptimer_bench.proofs.calls.Tie as tie
+use Rattle.bench.proofs.unit.calls.Statement.{statement}
+use Rattle.bench.proofs.unit.calls.Tie as tie
 
 abbrev Inv-loop : tie.InvT-loop
 Inv-loop what cycles unit₀ passed₀ left₀ unit passed left = Unit {0}
