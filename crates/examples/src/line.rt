@@ -1,5 +1,5 @@
 // A line of the input: a letter, and numbers in hexadecimal with a blank before each. No line is refused.
-ghost use Prim.Native.Nat.{_≤_, _<_};
+ghost use Prim.Native.Nat.{_≤_};
 ghost use lib.ListN.{length};
 
 pub(crate) struct Line {
@@ -64,14 +64,14 @@ pub(crate) fn byte(n: u64) -> u8 {
     (n % 0x100) as u8
 }
 
-// Where the line that begins at a place ends: at its newline, or with the text.
-pub(crate) fn line_end(text: &[u8], from: usize) -> usize
-    requires { ⌜ from < length (now text) ⌝ }
+// Where the text has the byte next, from a place on, or ends.
+pub(crate) fn next(text: &[u8], from: usize, byte: u8) -> usize
+    requires { ⌜ from ≤ length (now text) ⌝ }
     ensures { λ r. ⌜ (from ≤ r) × (r ≤ length (now (text .entry))) ⌝ }
 {
     let mut i = from;
     while i < text.len() {
-        if text[i] == b'\n' {
+        if text[i] == byte {
             return i;
         }
         i += 1;

@@ -3,43 +3,39 @@ use crate::line::Line;
 use crate::line::byte;
 use crate::line::word;
 use crate::text::fill;
+use crate::text::name;
 use bus::machine::Answer;
 use bus::machine::Machine;
 
 pub(crate) fn play(machine: Machine, line: Line) -> Machine {
-    name(line);
+    name(
+        b"r  read % at #;\
+          w  write % at # #;\
+          o  offer % $;\
+          a  advance %;\
+          s  skip %;\
+          x  reset;\
+          m  malformed;\
+          c  CONTROL of port % is #\n;",
+        line,
+    );
     call(machine, line)
-}
-
-fn name(line: Line) {
-    let n = line.numbers();
-    let letter = line.letter;
-    match letter {
-        b'r' => fill(b"  read % at #", n),
-        b'w' => fill(b"  write % at # #", n),
-        b'o' => fill(b"  offer % $", n),
-        b'a' => fill(b"  advance %", n),
-        b's' => fill(b"  skip %", n),
-        b'x' => fill(b"  reset", n),
-        b'm' => fill(b"  malformed", n),
-        b'c' => fill(b"  CONTROL of port % is #\n", n),
-        _ => fill(b"  ?\n", n),
-    }
 }
 
 fn call(machine: Machine, line: Line) -> Machine {
     let letter = line.letter;
-    match letter {
-        b'r' => answered(machine.read(word(line.second), byte(line.first))),
-        b'w' => answered(machine.write(word(line.second), byte(line.first), word(line.third))),
-        b'o' => answered(machine.offer(byte(line.first), byte(line.second))),
-        b'a' => answered(machine.advance(line.first)),
-        b's' => answered(machine.skip(line.first)),
-        b'x' => answered(machine.reset()),
-        b'm' => answered(machine.malformed()),
-        b'c' => with_control(machine, byte(line.first), word(line.second)),
-        _ => machine,
-    }
+    let answer = match letter {
+        b'r' => machine.read(word(line.second), byte(line.first)),
+        b'w' => machine.write(word(line.second), byte(line.first), word(line.third)),
+        b'o' => machine.offer(byte(line.first), byte(line.second)),
+        b'a' => machine.advance(line.first),
+        b's' => machine.skip(line.first),
+        b'x' => machine.reset(),
+        b'm' => machine.malformed(),
+        b'c' => return with_control(machine, byte(line.first), word(line.second)),
+        _ => return machine,
+    };
+    answered(answer)
 }
 
 fn with_control(mut machine: Machine, port: u8, word: u32) -> Machine {

@@ -27,8 +27,9 @@ use devices::apbuart::Apbuart;
 use devices::gptimer::Gptimer;
 use libc::STDIN_FILENO;
 use line::Line;
-use line::line_end;
+use line::next;
 use text::say;
+use text::unknown;
 
 // What the calls are made on: the letter of the part says which of the three.
 struct Bench {
@@ -48,7 +49,7 @@ fn play(text: &[u8]) {
     let mut bench = at_reset(0);
     let mut from = 0;
     while from < text.len() {
-        let end = line_end(text, from);
+        let end = next(text, from, b'\n');
         bench = played(bench, &text[from..end]);
         from = end + 1;
     }
@@ -89,7 +90,7 @@ fn called(mut bench: Bench, line: Line) -> Bench {
         b'P' => bench.port = port::play(bench.port, line),
         b'U' => bench.unit = unit::play(bench.unit, line),
         b'M' => bench.machine = machine::play(bench.machine, line),
-        _ => say(b"  ?\n"),
+        _ => unknown(),
     }
     bench
 }

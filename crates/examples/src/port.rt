@@ -3,39 +3,35 @@ use crate::line::Line;
 use crate::line::byte;
 use crate::line::word;
 use crate::text::fill;
+use crate::text::name;
 use devices::apbuart::Answer;
 use devices::apbuart::Apbuart;
 
 pub(crate) fn play(port: Apbuart, line: Line) -> Apbuart {
-    name(line);
+    name(
+        b"r  read $;\
+          w  write $ #;\
+          o  offer $;\
+          x  reset;\
+          c  CONTROL is #\n;\
+          q  the queue claims %\n;",
+        line,
+    );
     call(port, line)
-}
-
-fn name(line: Line) {
-    let n = line.numbers();
-    let letter = line.letter;
-    match letter {
-        b'r' => fill(b"  read $", n),
-        b'w' => fill(b"  write $ #", n),
-        b'o' => fill(b"  offer $", n),
-        b'x' => fill(b"  reset", n),
-        b'c' => fill(b"  CONTROL is #\n", n),
-        b'q' => fill(b"  the queue claims %\n", n),
-        _ => fill(b"  ?\n", n),
-    }
 }
 
 fn call(port: Apbuart, line: Line) -> Apbuart {
     let letter = line.letter;
-    match letter {
-        b'r' => answered(port.read(word(line.first))),
-        b'w' => answered(port.write(word(line.first), word(line.second))),
-        b'o' => answered(port.offer(byte(line.first))),
-        b'x' => answered(port.reset()),
-        b'c' => with_control(port, word(line.first)),
-        b'q' => with_count(port, byte(line.first)),
-        _ => port,
-    }
+    let answer = match letter {
+        b'r' => port.read(word(line.first)),
+        b'w' => port.write(word(line.first), word(line.second)),
+        b'o' => port.offer(byte(line.first)),
+        b'x' => port.reset(),
+        b'c' => return with_control(port, word(line.first)),
+        b'q' => return with_count(port, byte(line.first)),
+        _ => return port,
+    };
+    answered(answer)
 }
 
 fn with_control(mut port: Apbuart, word: u32) -> Apbuart {

@@ -2,24 +2,19 @@
 use crate::line::Line;
 use crate::line::word;
 use crate::text::fill;
+use crate::text::name;
 use devices::gptimer::Elapsed;
 use devices::gptimer::Gptimer;
 
 pub(crate) fn play(unit: Gptimer, line: Line) -> Gptimer {
-    name(line);
+    name(
+        b"r  read $;\
+          w  write $ #\n;\
+          a  advance %;\
+          s  skip %;",
+        line,
+    );
     call(unit, line)
-}
-
-fn name(line: Line) {
-    let n = line.numbers();
-    let letter = line.letter;
-    match letter {
-        b'r' => fill(b"  read $", n),
-        b'w' => fill(b"  write $ #\n", n),
-        b'a' => fill(b"  advance %", n),
-        b's' => fill(b"  skip %", n),
-        _ => fill(b"  ?\n", n),
-    }
 }
 
 fn call(unit: Gptimer, line: Line) -> Gptimer {
