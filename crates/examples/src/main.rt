@@ -1,9 +1,9 @@
 // Plays calls on the compiled serial port, timer unit and machine, and writes each with its whole answer. Standard input, of
 // at most 65,536 bytes, has one call a line.
 //
-// A line that begins with a capital letter begins a part, and is written as it stands. P has the calls after it made on a
-// serial port, U on a timer unit, M on a machine, each at reset. C compares the timer unit's advances and skips with its own
-// single cycles (`cycles.rt`).
+// A line that begins with P, U, M or C begins a part, and is written as it stands. P has the calls after it made on a serial
+// port, U on a timer unit, M on a machine, each at reset. C compares the timer unit's advances and skips with its own single
+// cycles (`cycles.rt`).
 //
 // Any other line is a call: a letter, and numbers in hexadecimal with a blank before each.
 //
