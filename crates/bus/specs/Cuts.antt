@@ -10,8 +10,8 @@ use Rattle.bus.specs.Call.{answer}
 use Rattle.bus.specs.declared.machine.Call.{Call}
 use Rattle.bus.specs.declared.machine.Call.the-variants.{Advance}
 
--- Each item of such a list is a call as it is, or the spans that an advance is cut into: any that add up to its own, and for an
--- advance of 0 none at all.
+-- Each item of such a list is a call as it is, or the spans that an advance is cut into: any that add up to its own, and for
+-- an advance of 0 also none at all.
 pub data Item : Type 0 where
   kept : Call → Item
   cut : (spans : List ℕ) → Item
@@ -32,7 +32,8 @@ cutCalls [] = []
 cutCalls (kept c ∷ es) = c ∷ cutCalls es
 cutCalls (cut spans ∷ es) = map Advance spans ++ cutCalls es
 
--- Two spans, one after the other, as one: their cycles and each timer's pulses together, and the rest as the second left it.
+-- The answers to two spans, one after the other, as one: their cycles and each timer's pulses together, and the rest as the
+-- second left it.
 abbrev pub joined : Answer → Answer → Answer
 joined a b =
     record {
@@ -46,13 +47,17 @@ joined a b =
       machine = b .machine;
     }
 
--- The answers to the spans of one advance as one, from the machine `m` on. No span at all is an advance of 0.
-abbrev pub together : (m : Machine) (spans : List Answer) → Answer
-together m [] = answer (Advance 0) m
-together m (a ∷ rest) = joined a (together (a .machine) rest)
+abbrev pub allJoined : Answer → List Answer → Answer
+allJoined a [] = a
+allJoined a (b ∷ rest) = joined a (allJoined b rest)
 
--- The answers to the cut list, from the machine `m` on, put together as those to the uncut list: those to the spans of an advance
--- become one, every other stays.
+-- Those to the spans of one advance, from the machine `m` on. No span at all is an advance of 0.
+abbrev pub together : (m : Machine) (parts : List Answer) → Answer
+together m [] = answer (Advance 0) m
+together m (a ∷ rest) = allJoined a rest
+
+-- The answers to the cut list, from the machine `m` on, put together as those to the uncut list: those to the spans of an
+-- advance become one, every other stays.
 pub data Rejoined : List Item → (m : Machine) (cut uncut : List Answer) → Type 0 where
   end : {m : Machine} → Rejoined [] m [] []
   unchanged :

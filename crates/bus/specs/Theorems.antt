@@ -89,12 +89,12 @@ port-claim m n offset value byte w =
 
 -- Of the board's table, by one computed test: no two windows overlap, each window of a port is one of a port that the board
 -- has, and its machine at reset has each of those ports.
-pub table-claim :
+pub board-claim :
     (m : Machine) →
     (let b = machineOf m .board in
     (allApart (b .windows) && allThere (b .ports) (b .windows) && leb (b .ports) (length (bus.resetState b .ports))) ≡ true)
 unfolding gr712rc
-table-claim m = refl
+board-claim m = refl
 
 -- So an address lies in one window at most: any window of a table without overlaps that holds it is the one that is reached.
 pub window-claim :

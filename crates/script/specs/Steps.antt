@@ -1,4 +1,5 @@
--- Steps on a machine, one after the other, and what is seen of them: the words of the claims on lists of calls and on scripts.
+-- Steps on a machine, one after the other, and what is seen of them: the words of the claims on lists of calls and on scripts. A
+-- step here is a call, a run or a piece of input, and may make many calls.
 pub mod Laws
 use Prim.Native.Nat.{ℕ, zero, suc, _*_, _≤_}
 use mathlib.Core.Path.{_≡_}
@@ -31,7 +32,7 @@ pub data Seen : Type 0 where
   answered : Answer → Seen
   logged : List ℕ → Seen
 
--- It agrees with the slow run's answer.
+-- What is seen, in order, are these answers: a call's answer on its view, a script record's log record as `entry`.
 pub data Agree : List Seen → List bus.Answer → Type 0 where
   none : Agree [] []
   answer :
@@ -66,16 +67,16 @@ allCalls steps = flatMap (λ (cs : List Call). cs) steps
 abbrev pub logOf : Ran → List ℕ → List ℕ
 logOf r bytes = take (entryLength * r .done) bytes
 
--- A run that does every whole record of a script, since its limit and its log leave room for them; with the log records
--- that it wrote and the machine after it.
-pub data WholeRun : Machine → List ℕ → List ℕ → Machine → Type 0 where
-  all-run :
+-- A run whose limit and log leave room for every whole record of its script (on an ill-formed machine it does none all the
+-- same); with the log records that it wrote and the machine after it.
+pub data RunWithRoom : Machine → List ℕ → List ℕ → Machine → Type 0 where
+  with-room :
       (limit : ℕ) (script log : List ℕ) {m : Machine} {r : Ran} {bytes : List ℕ} →
       Conforms m (run limit script log) r bytes → whole script ≤ limit → whole script ≤ fitting log →
-      WholeRun m script (logOf r bytes) (r .machine)
+      RunWithRoom m script (logOf r bytes) (r .machine)
 
--- What the program does with a piece of its input, with room in its log for each record, a tail's included.
-pub data WholePiece : Machine → List ℕ → List ℕ → Machine → Type 0 where
-  all-run :
+-- What the program does with a piece of its input, where its log has room for each record, a tail's included.
+pub data PieceWithRoom : Machine → List ℕ → List ℕ → Machine → Type 0 where
+  with-room :
       (input log : List ℕ) {m : Machine} {r : Ran} {bytes : List ℕ} → Conforms m (piece input log) r bytes →
-      withTail input ≤ fitting log → WholePiece m input (logOf r bytes) (r .machine)
+      withTail input ≤ fitting log → PieceWithRoom m input (logOf r bytes) (r .machine)

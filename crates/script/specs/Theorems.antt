@@ -1,20 +1,16 @@
--- What is claimed of the model, for the demands on it (README.md): begin here. First the claims in which script runs
--- take part, then those on single calls, which stand in the bus (Theorems.antt there). Most claims are about any answers,
--- machines and logs that meet the contracts of the calls (`Conforms`, View.antt here and in the bus), so about what the
--- code promises; `pieces-exist`, `read-claim`, `room-claim` and `refused-claim`, and in the bus `port-claim` and
--- `window-claim`, are about the definitions. The words of the claims are in Steps.antt and Pieces.antt, and in Cuts.antt of
--- the bus. Assumes nothing.
-use Prim.Native.Nat.{ℕ, zero, suc, _≤_, _<_, min}
+-- What is claimed of the model, for the demands on it (README.md): begin here. The claims on single calls stand in the bus
+-- (Theorems.antt there) and are passed on. Most claims are about any answers, machines and logs that meet the contracts of the
+-- calls (`Conforms`, View.antt here and in the bus), so about what the code promises; `pieces-exist`, `input-cut-claim` and
+-- `room-claim`, and in the bus `port-claim`, `board-claim` and `window-claim`, are about the definitions. The words of the
+-- claims are in Steps.antt and Pieces.antt, and in Cuts.antt of the bus. Assumes nothing.
+use Prim.Native.Nat.{ℕ, suc, _≤_, min}
 use mathlib.Core.Path.{_≡_, refl, sym, ap, _∙_}
 use mathlib.Core.Bool.{true, false}
-use mathlib.Core.List.{List, [], _∷_, _++_}
+use mathlib.Core.List.{List, _++_}
 use native.Mathlib.Omega.{arith}
-use native.Mathlib.Decide.{decLt}
-use lib.ListN.{length, take, drop, length-drop, take-append-drop}
-use lib.Seq.{length-take-le}
-use borrow.Author.Tests.{eq-eqb, ne-eqb}
+use lib.ListN.{length, take, drop}
+use borrow.Author.Tests.{ne-eqb}
 use Rattle.devices.specs.Refusal.{notRefused, illFormed}
-use Rattle.devices.specs.Apbuart as uart
 use Rattle.bus.specs.Board.{gr712rc}
 use Rattle.bus.specs.Machine as bus
 use Rattle.bus.specs.Machine.{wellFormed}
@@ -33,14 +29,17 @@ use Rattle.script.specs.Log.{entries}
 use Rattle.script.specs.Run.{whole, fitting, run, withTail}
 use Rattle.script.specs.Run.Laws as laws
 use Rattle.script.specs.Pieces.{Cut, uncut, cut, pieceLength, logLength, InPieces, last, full}
-use Rattle.script.specs.Steps.{Chain, Seen, Agree, Step, none, allCalls, WholeRun, WholePiece}
-use Rattle.script.specs.Steps.Laws.{chain-slow, agree-append, step-agrees, whole-run-slow, runs-slow, inputs-slow}
+use Rattle.script.specs.Steps.{Chain, Seen, Agree, Step, none, allCalls, RunWithRoom, PieceWithRoom}
+use Rattle.script.specs.Steps.Laws.{chain-slow, agree-append, step-agrees, run-with-room-slow, runs-slow, inputs-slow}
 use Rattle.script.specs.Program.{tailLog, output}
+use Rattle.script.specs.Program.Laws.{reset-well}
 use Rattle.script.specs.View.{Conforms}
 use Rattle.script.specs.View.Laws.{run-did}
+use Rattle.script.specs.declared.format.Reason.{Reason}
+use Rattle.script.specs.declared.format.Verdict.the-variants.{Accepted, Refused}
 use Rattle.script.specs.declared.run.Ran.{Ran}
 pub use Rattle.bus.specs.Theorems.{skip-claim, well-claim, ill-claim, number-claim, accepted-claim, refusal-claim}
-pub use Rattle.bus.specs.Theorems.{port-claim, table-claim, window-claim}
+pub use Rattle.bus.specs.Theorems.{port-claim, board-claim, window-claim}
 
 -- Demand 3, whole. "This is a single claim about the list": what is seen of its calls, script records among them, are
 -- the slow run's answers, and the last machine is the slow run's; whatever the calls, refused and malformed ones
@@ -54,26 +53,21 @@ list-claim {m} t =
 
 -- Demand 3: time may be cut anywhere. Replace any advances of a list, script records among them, each by spans that add up
 -- to its own (an advance of 0 also by none), put any of the calls into scripts, cut those as you like, and begin with an
--- equal machine. Then what is seen of the cut list are answers `xs`, what is seen of the uncut list are answers `ys`, and
--- `ys` are `xs` with the spans put together (`Rejoined`): every other answer as it is, the cycles and each timer's pulses
--- of the spans added up. The last machine is the same.
+-- equal machine. Then what is seen of the cut list are the slow run's answers `xs` to it, what is seen of the uncut list its
+-- answers `ys`, and `ys` are `xs` with the spans put together (`Rejoined`): every other answer as it is, the cycles and each
+-- timer's pulses of the spans added up. The last machine is the same.
 pub cut-claim :
     (es : List Item) {m n end end' : Machine} {steps cutSteps : List (List Call)} {seen cutSeen : List Seen} →
     machineOf m ≡ machineOf n → Chain Step m steps seen end → allCalls steps ≡ uncutCalls es →
     Chain Step n cutSteps cutSeen end' → allCalls cutSteps ≡ cutCalls es →
-    (xs : List bus.Answer) × (ys : List bus.Answer) × Agree cutSeen xs × Agree seen ys × Rejoined es (machineOf n) xs ys ×
-    (machineOf end ≡ machineOf end')
+    (let xs = answers (cutCalls es) (machineOf n) in
+    let ys = answers (uncutCalls es) (machineOf n) in
+    Agree cutSeen xs × Agree seen ys × Rejoined es (machineOf n) xs ys × (machineOf end ≡ machineOf end'))
 cut-claim es {m} {n} e t uncuts u cuts =
     let slow = slow-cut es (machineOf n) in
     let one = rw (e, uncuts) at (list-claim t) in
-    let two = rw cuts at (list-claim u) in (
-      answers (cutCalls es) (machineOf n),
-      answers (uncutCalls es) (machineOf n),
-      two .0,
-      one .0,
-      slow .0,
-      one .1 ∙ slow .1 ∙ sym (two .1),
-    )
+    let two = rw cuts at (list-claim u) in
+    (two .0, one .0, slow .0, one .1 ∙ slow .1 ∙ sym (two .1))
 
 -- Demand 3, runs. "on such a machine a run logs the slow run's answers, in order, for the records it does, and leaves
 -- the machine that the slow run leaves after them", a malformed record being a refused call. It does the smallest of
@@ -121,68 +115,55 @@ run-well-claim limit script log {bytes} {m} {r} c =
     ap wellFormed (run-did script log (min limit (min (whole script) (fitting log))) c .2) ∙
     after-keeps (calls (r .done) script) (machineOf m)
 
--- Demand 3, scripts: however a script is cut between records, and whatever the machine, ill-formed ones included, the
--- runs of its pieces yield, joined, the log of one uncut run, and the same last machine.
+-- Demand 3, scripts: however a script is cut between records, and whatever the machine, ill-formed ones included, the runs of
+-- its pieces yield, joined, the log of one uncut run, and the same last machine, where limits and log room cover every record.
 pub pieces-claim :
     {m n end last : Machine} {script joined written : List ℕ} {pieces : List (List ℕ)} → machineOf m ≡ machineOf n →
-    Cut script pieces → Chain WholeRun m pieces joined end → WholeRun n script written last →
+    Cut script pieces → Chain RunWithRoom m pieces joined end → RunWithRoom n script written last →
     (joined ≡ written) × (machineOf end ≡ machineOf last)
 pieces-claim {m} {n} {last} {script} {written} e cuts runs one =
     let parts = runs-slow cuts runs in
-    let uncut = rw (← e) at (whole-run-slow (wellFormed (machineOf m)) n last script written (ap wellFormed (sym e)) one) in
+    let uncut = rw (← e) at (run-with-room-slow (wellFormed (machineOf m)) n last script written (ap wellFormed (sym e)) one) in
     (parts .0 ∙ sym (uncut .0), parts .1 ∙ sym (uncut .1))
 
 -- Every input can be read in pieces of 4,096 bytes, these are a cut between records, and a log buffer of the program's
 -- length has room for what such a piece logs.
-cut-up : (n : ℕ) (input : List ℕ) → length input < n → (inputs : List (List ℕ)) × InPieces input inputs
-cut-up zero input h = absurd (omega arith)
-cut-up (suc n) input h =
-    elim (decLt (length input) pieceLength) [
-      | yes l ↦ (input ∷ [], last l)
-      | no l ↦
-          let rest = cut-up n (drop pieceLength input) (rw length-drop (omega arith)) in (
-            take pieceLength input ∷ rest .0,
-            rw (take-append-drop pieceLength input) at
-                (full {piece = take pieceLength input} {rest = drop pieceLength input}
-                (length-take-le pieceLength input (omega arith)) (rest .1)),
-          )
-    ]
-
 pub pieces-exist : (input : List ℕ) → (inputs : List (List ℕ)) × InPieces input inputs
-pieces-exist input = cut-up (suc (length input)) input (omega arith)
+pieces-exist input = laws.in-pieces (suc (length input)) input (omega arith)
 
-pub read-claim : {input : List ℕ} {inputs : List (List ℕ)} → InPieces input inputs → Cut input inputs
-read-claim (last h) = uncut
-read-claim (full {piece} {rest} e reads) = cut {piece = piece} {rest = rest} (rw e refl) (read-claim reads)
+pub input-cut-claim : {input : List ℕ} {inputs : List (List ℕ)} → InPieces input inputs → Cut input inputs
+input-cut-claim (last h) = uncut
+input-cut-claim (full {piece} {rest} e reads) = cut {piece = piece} {rest = rest} (rw e refl) (input-cut-claim reads)
 
 pub room-claim : (input log : List ℕ) → length input ≤ pieceLength → length log ≡ logLength → withTail input ≤ fitting log
 room-claim = laws.piece-fits
 
-reset-well : wellFormed (bus.resetState gr712rc) ≡ true
-unfolding bus.allWell uart.wellFormed
-reset-well = refl
-
--- The program: what it writes is the output of its definition, whatever its input is. By its first bytes a script is
--- refused, and then it writes the refusal's line.
+-- What the library gives the program to write is the output of its definition, whatever the input is. Either a script's first
+-- bytes are refused, and it is the refusal's line.
 pub refused-claim :
-    (input : List ℕ) {number : ℕ} → number ≡ format.refusal format.script (take format.headerLength input) →
-    (number ≡ notRefused → ⊥) → format.refusalLine number ≡ output input
+    (input : List ℕ) (reason : Reason) →
+    format.verdictNumber (Refused reason) ≡ format.refusal format.script (take format.headerLength input) →
+    format.refusalLine (format.numberOf reason) ≡ output input
 unfolding output
-refused-claim input {number} e differs =
-    rw (← format-laws.refusal-front format.script input, ← e, ne-eqb number notRefused differs) refl
+refused-claim input reason e =
+    rw (
+      ← format-laws.refusal-front format.script input,
+      ← e,
+      ne-eqb (format.numberOf reason) notRefused (format-laws.refused-number reason),
+    ) refl
 
--- Or it is not refused, and then it writes a log's header and what its runs of the pieces log, from a machine at reset,
--- however what follows the header is cut between records.
+-- Or they are accepted, and it is a log's header and what the runs of the pieces log, from a machine at reset, however what
+-- follows the header is cut between records.
 pub program-claim :
-    (input : List ℕ) {number : ℕ} {m end : Machine} {joined : List ℕ} {inputs : List (List ℕ)} →
-    number ≡ format.refusal format.script (take format.headerLength input) → number ≡ notRefused →
+    (input : List ℕ) {m end : Machine} {joined : List ℕ} {inputs : List (List ℕ)} →
+    format.verdictNumber Accepted ≡ format.refusal format.script (take format.headerLength input) →
     machineOf m ≡ bus.resetState gr712rc → Cut (drop format.headerLength input) inputs →
-    Chain WholePiece m inputs joined end → format.header format.log ++ joined ≡ output input
+    Chain PieceWithRoom m inputs joined end → format.header format.log ++ joined ≡ output input
 unfolding output
-program-claim input {number} e accepted start cuts pieces =
+program-claim input e start cuts pieces =
     let rest = drop format.headerLength input in
     let cs = calls (whole rest) rest in
-    rw (← format-laws.refusal-front format.script input, ← e, eq-eqb number notRefused accepted)
+    rw (← format-laws.refusal-front format.script input, ← e)
     (ap (λ (l : List ℕ). format.header format.log ++ l)
     (inputs-slow (ap wellFormed start ∙ reset-well) cuts pieces .0 ∙
     ap (λ (x : bus.Machine). entries (answers cs x) ++ tailLog rest (after cs x)) start))
@@ -191,11 +172,11 @@ program-claim input {number} e accepted start cuts pieces =
 -- number 10; and its last machine is that run's.
 pub one-run-claim :
     {m n end last : Machine} {script joined written : List ℕ} {inputs : List (List ℕ)} → machineOf m ≡ machineOf n →
-    wellFormed (machineOf m) ≡ true → Cut script inputs → Chain WholePiece m inputs joined end →
-    WholeRun n script written last →
+    wellFormed (machineOf m) ≡ true → Cut script inputs → Chain PieceWithRoom m inputs joined end →
+    RunWithRoom n script written last →
     (joined ≡ written ++ tailLog script (machineOf last)) × (machineOf end ≡ machineOf last)
 one-run-claim {m} {n} {last} {script} {written} e well cuts pieces one =
-    let run = rw (← e) at (whole-run-slow true n last script written (ap wellFormed (sym e) ∙ well) one) in
+    let run = rw (← e) at (run-with-room-slow true n last script written (ap wellFormed (sym e) ∙ well) one) in
     let records = calls (whole script) script in
     let all = inputs-slow well cuts pieces in (
       all .0 ∙

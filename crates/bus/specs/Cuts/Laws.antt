@@ -2,6 +2,7 @@
 use Prim.Native.Nat.{ℕ, _+_}
 use mathlib.Core.Path.{_≡_, refl, sym, ap, _∙_}
 use mathlib.Core.List.{List, [], _∷_, map}
+use native.Mathlib.Nat.{add-zero}
 use lib.ListN.{length, length-map}
 use Rattle.devices.specs.Cases.{tested}
 use Rattle.devices.specs.Gptimer as gpt
@@ -12,7 +13,7 @@ use Rattle.bus.specs.Call.Laws.{advance-well, ill-refused}
 use Rattle.bus.specs.SlowRun.{answers, after}
 use Rattle.bus.specs.SlowRun.Laws.{answers-append, after-append, length-answers}
 use Rattle.bus.specs.Cuts as cuts
-use Rattle.bus.specs.Cuts.{Item, kept, cut, total, uncutCalls, cutCalls, joined, together, Rejoined}
+use Rattle.bus.specs.Cuts.{Item, kept, cut, total, uncutCalls, cutCalls, joined, allJoined, together, Rejoined}
 use Rattle.bus.specs.declared.machine.Call.the-variants.{Advance}
 
 -- An advance of 0 changes nothing.
@@ -44,14 +45,23 @@ advance-joined a b m =
     refl)
 
 -- An advance in spans: their answers put together, and the machine after them.
-spans-together :
-    (spans : List ℕ) (m : Machine) →
-    (together m (answers (map Advance spans) m) ≡ answer (Advance (total spans)) m) ×
-    (after (map Advance spans) m ≡ answer (Advance (total spans)) m .machine)
-spans-together [] m = (refl, sym (advance-none m))
-spans-together (span ∷ spans) m =
-    let rest = spans-together spans (answer (Advance span) m .machine) in
-    rw (advance-joined span (total spans) m) (ap (joined (answer (Advance span) m)) (rest .0), rest .1)
+spans-joined :
+    (span : ℕ) (spans : List ℕ) (m : Machine) →
+    allJoined (answer (Advance span) m) (answers (map Advance spans) (answer (Advance span) m .machine)) ≡
+    answer (Advance (span + total spans)) m
+spans-joined span [] m = rw add-zero refl
+spans-joined span (next ∷ spans) m =
+    ap (joined (answer (Advance span) m)) (spans-joined next spans (answer (Advance span) m .machine)) ∙
+    sym (advance-joined span (next + total spans) m)
+
+spans-together : (spans : List ℕ) (m : Machine) → together m (answers (map Advance spans) m) ≡ answer (Advance (total spans)) m
+spans-together [] m = refl
+spans-together (span ∷ spans) m = spans-joined span spans m
+
+spans-after : (spans : List ℕ) (m : Machine) → after (map Advance spans) m ≡ answer (Advance (total spans)) m .machine
+spans-after [] m = sym (advance-none m)
+spans-after (span ∷ spans) m =
+    rw (advance-joined span (total spans) m) (spans-after spans (answer (Advance span) m .machine))
 
 -- The slow run of the cut list against that of the uncut one.
 pub slow-cut :
@@ -61,15 +71,14 @@ slow-cut [] m = (cuts.end, refl)
 slow-cut (kept c ∷ es) m = let rest = slow-cut es (answer c m .machine) in (cuts.unchanged (rest .0), rest .1)
 slow-cut (cut spans ∷ es) m =
     let parts = answers (map Advance spans) m in
-    let own = spans-together spans m in
     let rest = slow-cut es (together m parts .machine) in
     let many : length parts ≡ length spans = length-answers (map Advance spans) m ∙ length-map spans Advance in
     rw (
       answers-append (map Advance spans) (cutCalls es) m,
       after-append (map Advance spans) (cutCalls es) m,
-      own .1,
-      ← own .0,
+      spans-after spans m,
+      ← spans-together spans m,
     ) (
       cuts.put-together parts many (rest .0),
-      ap (λ (a : Answer). after (uncutCalls es) (a .machine)) (sym (own .0)) ∙ rest .1,
+      ap (λ (a : Answer). after (uncutCalls es) (a .machine)) (sym (spans-together spans m)) ∙ rest .1,
     )

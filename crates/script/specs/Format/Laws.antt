@@ -7,8 +7,10 @@ use lib.ListN.{length, take}
 use borrow.Author.Tests.{le-ltb}
 use Rattle.devices.specs.Refusal.{notRefused}
 use Rattle.script.specs.Number.{number, encoded}
-use Rattle.script.specs.Format.{script, log, header, headerLength, refusal}
+use Rattle.script.specs.Format.{script, log, header, headerLength, refusal, numberOf}
 use Rattle.script.specs.declared.format.Format.{Format}
+use Rattle.script.specs.declared.format.Reason.{Reason}
+use Rattle.script.specs.declared.format.Reason.the-variants.{BadFile, BadVersion}
 
 -- A file is judged by its header.
 pub refusal-front : (f : Format) (file : List ℕ) → refusal f (take headerLength file) ≡ refusal f file
@@ -25,3 +27,8 @@ refusal-front f (a ∷ b ∷ c ∷ d ∷ e ∷ rest) =
 pub own-header : (refusal script (header script) ≡ notRefused) × (refusal log (header log) ≡ notRefused)
 unfolding number encoded
 own-header = (refl, refl)
+
+-- No reason for a refusal has the number of none.
+pub refused-number : (reason : Reason) → numberOf reason ≡ notRefused → ⊥
+refused-number BadFile e = absurd (omega arith)
+refused-number BadVersion e = absurd (omega arith)

@@ -7,6 +7,8 @@ use native.Mathlib.Decide.{ℕ-discrete}
 use native.Mathlib.Nat.{add-zero}
 use lib.ListN.{length}
 use borrow.Author.Tests.{eq-eqb, ne-eqb}
+use Rattle.devices.specs.Apbuart as uart
+use Rattle.bus.specs.Board.{gr712rc}
 use Rattle.bus.specs.Refusal.{badRecord}
 use Rattle.bus.specs.Machine as bus
 use Rattle.bus.specs.Machine.{wellFormed}
@@ -21,6 +23,11 @@ use Rattle.script.specs.Log.{entry, entries}
 use Rattle.script.specs.Log.Laws.{entries-append}
 use Rattle.script.specs.Run.{whole, withTail}
 use Rattle.script.specs.Program.{tailLog}
+
+-- The machine that the program starts with.
+pub reset-well : wellFormed (bus.resetState gr712rc) ≡ true
+unfolding bus.allWell uart.wellFormed
+reset-well = refl
 
 -- A tail is answered with 10, on the machine that the records before it left.
 malformed-well : (m : bus.Machine) → wellFormed m ≡ true → answer Malformed m ≡ bus.refused badRecord m

@@ -1,13 +1,14 @@
 -- What follows from the definitions of a run and of a piece. Assumes nothing.
-use Prim.Native.Nat.{ℕ, _+_, _*_, _/_, _%_, _≤_, _<_, min}
+use Prim.Native.Nat.{ℕ, zero, suc, _+_, _*_, _/_, _%_, _≤_, _<_, min}
 use mathlib.Core.Path.{_≡_, refl, sym, ap, _∙_}
 use mathlib.Core.Bool.{Bool, true, false, cond}
-use mathlib.Core.List.{List, [], _++_, append-nil, flatMap}
-use native.Mathlib.Decide.{ℕ-discrete}
+use mathlib.Core.List.{List, [], _∷_, _++_, append-nil, flatMap}
+use native.Mathlib.Decide.{decLt, ℕ-discrete}
 use native.Mathlib.Omega.{arith}
 use native.Mathlib.Nat.{div-add-mod', mul-add-div, mul-add-mod-self-left}
 use lib.Dec.{eqb}
-use lib.ListN.{length, length-append}
+use lib.ListN.{length, take, drop, length-append, length-drop, take-append-drop}
+use lib.Seq.{length-take-le}
 use borrow.Author.Tests.{eq-eqb, ne-eqb}
 use Rattle.devices.specs.Cases.{same, chosen}
 use Rattle.bus.specs.Machine as bus
@@ -20,7 +21,7 @@ use Rattle.script.specs.Script.Laws.{length-calls, calls-append}
 use Rattle.script.specs.Log.{entryLength, entries}
 use Rattle.script.specs.Log.Laws.{length-entries}
 use Rattle.script.specs.Run.{Ran, runFirst, whole, fitting, withTail}
-use Rattle.script.specs.Pieces.{Cut, none, uncut, cut, pieceLength, logLength}
+use Rattle.script.specs.Pieces.{Cut, none, uncut, cut, pieceLength, logLength, InPieces, last, full}
 
 -- What n records write.
 pub written-length :
@@ -107,3 +108,18 @@ pub done-fits :
 done-fits n script log m count =
     chosen (λ b (d : Ran). count ≡ d .done → entryLength * count ≤ length log) (wellFormed m) _ _
     (λ e. omega (arith, div-add-mod' (length log) entryLength)) (λ e. omega arith)
+
+-- Every input can be read in pieces of the program's length.
+pub in-pieces : (n : ℕ) (input : List ℕ) → length input < n → (inputs : List (List ℕ)) × InPieces input inputs
+in-pieces zero input h = absurd (omega arith)
+in-pieces (suc n) input h =
+    elim (decLt (length input) pieceLength) [
+      | yes l ↦ (input ∷ [], last l)
+      | no l ↦
+          let rest = in-pieces n (drop pieceLength input) (rw length-drop (omega arith)) in (
+            take pieceLength input ∷ rest .0,
+            rw (take-append-drop pieceLength input) at
+                (full {piece = take pieceLength input} {rest = drop pieceLength input}
+                (length-take-le pieceLength input (omega arith)) (rest .1)),
+          )
+    ]

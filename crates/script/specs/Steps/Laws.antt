@@ -25,7 +25,7 @@ use Rattle.script.specs.Program.Laws.{tail-answered}
 use Rattle.script.specs.View.{Conforms}
 use Rattle.script.specs.View.Laws.{run-did}
 use Rattle.script.specs.Steps.{Chain, stop, next, Seen, Agree, none, answer, record-of, records, Step, logOf}
-use Rattle.script.specs.Steps.{call, script-run, input-piece, WholeRun, WholePiece, all-run}
+use Rattle.script.specs.Steps.{call, script-run, input-piece, RunWithRoom, PieceWithRoom, with-room}
 use Rattle.script.specs.declared.run.Ran.{Ran}
 
 -- What a step shows tells the answers to its calls. A step may go by whether the machine is well formed: no step changes that.
@@ -91,7 +91,8 @@ step-agrees (script-run limit script log h) =
     run-agrees (min limit (min (whole script) (fitting log))) script log h
 step-agrees (input-piece input log h) = run-agrees (min (withTail input) (fitting log)) input log h
 
--- Either is the slow run of the records that are given, where the machine is well formed, and of none where it is not.
+-- A run with room, and a piece with room, is the slow run of the records that are given, where the machine is well formed, and
+-- of none where it is not.
 abbrev pub slowLog : (cs : List Call) (m : Machine) (written : List ℕ) (n : Machine) → Type 0
 slowLog cs m written n = (written ≡ entries (answers cs (machineOf m))) × (machineOf n ≡ after cs (machineOf m))
 
@@ -104,17 +105,17 @@ run-slow n k script log {m} {r} well w c e =
     let count : r .done ≡ cond well k 0 = ran .0 ∙ rw (w, e) refl in
     rw (← count) (ran .1, ran .2)
 
-pub whole-run-slow :
-    (well : Bool) (m n : Machine) (script written : List ℕ) → wellFormed (machineOf m) ≡ well → WholeRun m script written n →
+pub run-with-room-slow :
+    (well : Bool) (m n : Machine) (script written : List ℕ) → wellFormed (machineOf m) ≡ well → RunWithRoom m script written n →
     slowLog (calls (cond well (whole script) 0) script) m written n
 unfolding run
-whole-run-slow well m n script written w (all-run limit _ log c h k) = run-slow _ (whole script) script log well w c (omega arith)
+run-with-room-slow well m n script written w (with-room limit _ log c h k) = run-slow _ (whole script) script log well w c (omega arith)
 
-whole-piece-slow :
-    (well : Bool) (m n : Machine) (input written : List ℕ) → wellFormed (machineOf m) ≡ well → WholePiece m input written n →
+piece-with-room-slow :
+    (well : Bool) (m n : Machine) (input written : List ℕ) → wellFormed (machineOf m) ≡ well → PieceWithRoom m input written n →
     slowLog (calls (cond well (withTail input) 0) input) m written n
 unfolding piece
-whole-piece-slow well m n input written w (all-run _ log c h) = run-slow _ (withTail input) input log well w c (omega arith)
+piece-with-room-slow well m n input written w (with-room _ log c h) = run-slow _ (withTail input) input log well w c (omega arith)
 
 entries-both :
     (xs ys : List ℕ) (rs ss : List bus.Answer) → xs ≡ entries rs → ys ≡ entries ss → xs ++ ys ≡ entries (rs ++ ss)
@@ -139,18 +140,18 @@ module _
 
 pub runs-slow :
     {m end : Machine} {script joined : List ℕ} {pieces : List (List ℕ)} → Cut script pieces →
-    Chain WholeRun m pieces joined end →
+    Chain RunWithRoom m pieces joined end →
     slowLog (calls (cond (wellFormed (machineOf m)) (whole script) 0) script) m joined end
-runs-slow = pieces-slow whole whole-counts WholeRun whole-run-slow
+runs-slow = pieces-slow whole whole-counts RunWithRoom run-with-room-slow
 
 -- What the program logs for the pieces of its input, from a well-formed machine on: the whole records, and the tail.
 pub inputs-slow :
     {m end : Machine} {script joined : List ℕ} {inputs : List (List ℕ)} → wellFormed (machineOf m) ≡ true →
-    Cut script inputs → Chain WholePiece m inputs joined end →
+    Cut script inputs → Chain PieceWithRoom m inputs joined end →
     (let cs = calls (whole script) script in
     (joined ≡ entries (answers cs (machineOf m)) ++ tailLog script (after cs (machineOf m))) ×
     (machineOf end ≡ after cs (machineOf m)))
 inputs-slow {m} {script} well cuts pieces =
-    let parts = rw well at (pieces-slow withTail tail-counts WholePiece whole-piece-slow cuts pieces) in
+    let parts = rw well at (pieces-slow withTail tail-counts PieceWithRoom piece-with-room-slow cuts pieces) in
     let tail = tail-answered script (machineOf m) well in
     (parts .0 ∙ tail .0, parts .1 ∙ tail .1)
