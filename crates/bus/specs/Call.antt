@@ -1,6 +1,6 @@
--- Each call on a machine: paper 01, "Refusal numbers" with its order, and "The slow run". The code's enum of calls says no more
--- than the paper does, so the definitions are on that enum: "An access has a 32-bit address and a size in bytes." "Script records
--- are such calls, a malformed one a refused call".
+-- Each call on a machine: paper 01, "Refusal numbers" with its order, and "The slow run". The code's enum of calls says no
+-- more than the paper does, so the definitions are on that enum: "An access has a 32-bit address and a size in bytes." "Script
+-- records are such calls, a malformed one a refused call".
 pub mod Laws
 use Prim.Native.Nat.{ℕ, _+_, _-_, _%_}
 use mathlib.Core.Bool.{Bool, false, true, cond, not, _||_}

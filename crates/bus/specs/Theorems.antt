@@ -1,7 +1,7 @@
--- What is claimed of a single call on a machine, for the demands on the model (README.md); what is claimed of lists of calls, script
--- records among them, stands in the scripts (Theorems.antt there). Most claims are about any answers and machines that meet the
--- calls' contracts (`Conforms`, View.antt), so about what the code promises; the last ones are about the definitions. Assumes
--- nothing.
+-- What is claimed of a single call on a machine, for the demands on the model (README.md); what is claimed of lists of calls,
+-- script records among them, stands in the scripts (Theorems.antt there). Most claims are about any answers and machines that
+-- meet the calls' contracts (`Conforms`, View.antt), so about what the code promises; the last ones are about the definitions.
+-- Assumes nothing.
 use Prim.Native.Nat.{ℕ, _<_}
 use mathlib.Core.Path.{_≡_, refl, sym, ap, _∙_}
 use mathlib.Core.Bool.{true, false, _&&_}

@@ -1,6 +1,7 @@
--- What of the code's structs counts, and the contract of each call on a machine. No definition decides, in a machine after an
--- accepted call and in the one that `Machine::reset_state` makes, what none decides in its ports (Apbuart/View.antt of the devices): a
--- queue's `head` and its places that hold no waiting byte. Every answer is the same whatever they are.
+-- What of the code's structs counts, and the contract of each call on a machine. What no definition decides in a port
+-- (Apbuart/View.antt of the devices), a queue's `head` and its places that hold no waiting byte, none decides in a machine:
+-- after an accepted call, and in what `Machine::reset_state` makes. What holds anyway: the view is decided, and on machines of
+-- one view every call has the same answer.
 use mathlib.Core.Path.{_≡_}
 use mathlib.Core.List.{map}
 use Rattle.devices.specs.Refusal.{notRefused}

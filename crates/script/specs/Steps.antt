@@ -1,5 +1,5 @@
--- Steps on a machine, one after the other, and what is seen of them: the words of the claims on lists of calls and on scripts. A
--- step here is a call, a run or a piece of input, and may make many calls.
+-- Steps on a machine, one after the other, and what is seen of them: the words of the claims on lists of calls and on scripts.
+-- A step here is a call, a run or a piece of input, and may make many calls.
 pub mod Laws
 use Prim.Native.Nat.{ℕ, zero, suc, _*_, _≤_}
 use mathlib.Core.Path.{_≡_}

@@ -1,6 +1,6 @@
--- What of the code's types counts, and the contract of each run. No definition decides, in the machine that a run which is not
--- refused leaves, what none decides in its ports (Apbuart/View.antt of the devices): a queue's `head` and its places that hold no
--- waiting byte. Every later log record is the same whatever they are.
+-- What of the code's types counts, and the contract of each run. What no definition decides in a port (Apbuart/View.antt of
+-- the devices), a queue's `head` and its places that hold no waiting byte, none decides in the machine that a run leaves unless
+-- it is refused. What holds anyway: the view is decided, and from machines of one view every run writes the same log.
 pub mod Laws
 use Prim.Native.Nat.{ℕ}
 use mathlib.Core.Path.{_≡_}

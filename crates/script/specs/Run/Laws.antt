@@ -109,7 +109,7 @@ done-fits n script log m count =
     chosen (λ b (d : Ran). count ≡ d .done → entryLength * count ≤ length log) (wellFormed m) _ _
     (λ e. omega (arith, div-add-mod' (length log) entryLength)) (λ e. omega arith)
 
--- Every input can be read in pieces of the program's length.
+-- Every input can be cut into pieces as the program reads them.
 pub in-pieces : (n : ℕ) (input : List ℕ) → length input < n → (inputs : List (List ℕ)) × InPieces input inputs
 in-pieces zero input h = absurd (omega arith)
 in-pieces (suc n) input h =

@@ -1,5 +1,5 @@
--- What follows from the words of the claims: a step is the slow run of its calls, and a chain of steps that of all of them. Assumes
--- nothing.
+-- What follows from the words of the claims: a step is the slow run of its calls, and a chain of steps that of all of them.
+-- Assumes nothing.
 use Prim.Native.Nat.{ℕ, zero, suc, _*_, min}
 use mathlib.Core.Path.{_≡_, refl, ap, _∙_}
 use mathlib.Core.Bool.{Bool, true, cond}
@@ -121,8 +121,8 @@ entries-both :
     (xs ys : List ℕ) (rs ss : List bus.Answer) → xs ≡ entries rs → ys ≡ entries ss → xs ++ ys ≡ entries (rs ++ ss)
 entries-both xs ys rs ss e f = rw (entries-append rs ss, e, f) refl
 
--- A script in pieces: where the run of each piece is the slow run of the records that are given in it, the runs of all of them are
--- that of the script's.
+-- A script in pieces: where the run of each piece is the slow run of the records that are given in it, the runs of all of them
+-- are that of the script's.
 module _
     (given : List ℕ → ℕ) (counts : Counts given) (Does : Machine → List ℕ → List ℕ → Machine → Type 0)
     (each :
