@@ -1,29 +1,18 @@
 -- Writing into a list, one byte and one part after the other. Assumes nothing.
-use Prim.Native.Nat.{ℕ, suc, _+_, _≤_, _<_}
+use Prim.Native.Nat.{ℕ, _+_, _≤_, _<_}
 use mathlib.Core.Path.{_≡_, refl, sym, ap, _∙_}
 use mathlib.Core.List.{List, [], _∷_, _++_, append-assoc}
 use native.Mathlib.Omega.{arith}
+use native.Mathlib.Numerals.{add-one}
 use native.Mathlib.Nat.{add-zero, add-assoc}
-use lib.ListN.{length, take, drop, set, length-append, take-append-drop}
-use lib.Seq.{take-at, drop-at, drop-drop, take-set-le, set-split, length-take-le, append-snoc}
+use lib.ListN.{length, getD, take, drop, set, length-append, take-append-drop}
+use lib.Seq.{take-at, drop-at, drop-drop, set-split, take-suc, take-all, length-take-le}
 use Rattle.script.specs.Buffer.{wrote}
 
-pub wrote-none : (l : List ℕ) (i : ℕ) → wrote l i [] ≡ l
+-- Nothing.
+pub none-written : (l : List ℕ) (i : ℕ) → l ≡ wrote l i []
 unfolding wrote
-wrote-none l i = rw (add-zero i) (take-append-drop i l)
-
--- A byte is stored before the ones in front of it are.
-pub wrote-last :
-    (l vs : List ℕ) (i k x : ℕ) → length vs ≡ k → i + k < length l →
-    wrote (set l (i + k) x) i vs ≡ wrote l i (vs ++ (x ∷ []))
-unfolding wrote
-wrote-last l vs i k x e h =
-    let head : take i (set l (i + k) x) ≡ take i l = take-set-le i l (i + k) x (omega arith) in
-    let tail : drop (i + k) (set l (i + k) x) ≡ x ∷ drop (suc (i + k)) l =
-    ap (drop (i + k)) (set-split l (i + k) x h) ∙
-    drop-at (take (i + k) l) (x ∷ drop (suc (i + k)) l) (i + k) (length-take-le (i + k) l (omega arith)) in
-    let far : i + length (vs ++ (x ∷ [])) ≡ suc (i + k) = rw length-append (omega arith) in
-    rw (e, head, tail, far, append-snoc vs x (drop (suc (i + k)) l)) refl
+none-written l i = rw (add-zero i) (sym (take-append-drop i l))
 
 -- Two parts, one behind the other.
 pub wrote-join :
@@ -41,5 +30,19 @@ wrote-join l xs ys i j e h =
     drop-drop (length ys) (i + j) l ∙ ap (λ (n : ℕ). drop n l) (add-assoc i j (length ys)) in
     rw (head, tail, length-append, e, append-assoc, append-assoc) refl
 
-pub none-written : (l : List ℕ) (i : ℕ) → l ≡ wrote l i []
-none-written l i = sym (wrote-none l i)
+-- One byte, and one more.
+wrote-one : (l : List ℕ) (i x : ℕ) → i < length l → set l i x ≡ wrote l i (x ∷ [])
+unfolding wrote
+wrote-one l i x h = rw (add-one i) (set-split l i x h)
+
+pub wrote-next :
+    (l₀ l vs : List ℕ) (at i n : ℕ) → l ≡ wrote l₀ at (take i vs) → i < n → length vs ≡ n → at + n ≤ length l₀ →
+    length l ≡ length l₀ → set l (at + i) (getD vs i 0) ≡ wrote l₀ at (take (i + 1) vs)
+wrote-next l₀ l vs at i n e h k room same =
+    wrote-one l (at + i) (getD vs i 0) (omega arith) ∙
+    rw (e, add-one i, take-suc vs i 0 (omega arith))
+    (wrote-join l₀ (take i vs) (getD vs i 0 ∷ []) at i (length-take-le i vs (omega arith)) (omega arith))
+
+pub wrote-all :
+    (l₀ l vs ws : List ℕ) (at i n : ℕ) → l ≡ wrote l₀ at (take i vs) → n ≤ i → length vs ≡ n → vs ≡ ws → l ≡ wrote l₀ at ws
+wrote-all l₀ l vs ws at i n e h k f = rw (← f) (e ∙ rw (take-all i vs (omega arith)) refl)

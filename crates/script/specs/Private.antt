@@ -2,14 +2,27 @@
 use Prim.Native.Nat.{ℕ}
 use mathlib.Core.Path.{_≡_}
 use mathlib.Core.Bool.{Bool, cond}
-use mathlib.Core.List.{List, [], _∷_, _++_}
+use mathlib.Core.List.{List, [], _∷_, _++_, reverse}
 use Rattle.bus.specs.Machine as bus
 use Rattle.bus.specs.View.{machineOf}
 use Rattle.bus.specs.declared.machine.Machine.{Machine}
-use Rattle.script.specs.Number.{encoded}
+use Rattle.script.specs.Number.{number, encoded}
 use Rattle.script.specs.Buffer.{wrote}
+use Rattle.script.specs.Script.{Line, advanceLine, skipLine, resetLine}
 use Rattle.script.specs.Log.{entry}
 use Rattle.script.specs.Run.{Ran}
+use Rattle.script.specs.declared.record.Fields.{Fields}
+
+-- a number of `count` bytes with them in the other order
+abbrev pub reversed : (count n : ℕ) → ℕ
+reversed count n = number 0 count (reverse (encoded count n))
+
+-- the lines of the table for kinds 4 to 6, and the blanks that each of them has
+abbrev pub lines4to6 : Fields → List Line
+lines4to6 r = advanceLine r ∷ skipLine r ∷ resetLine r ∷ []
+
+abbrev pub blanks4to6 : Fields → List ℕ
+blanks4to6 r = r .byte_1 ∷ r .byte_2 ∷ r .byte_3 ∷ r .bytes_4_7 ∷ []
 
 -- numbers of 8 bytes, one behind the other
 abbrev pub longs : List ℕ → List ℕ

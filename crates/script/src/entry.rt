@@ -63,7 +63,7 @@ fn put_longs(log: &mut [u8], at: usize, longs: [u64; LONGS])
 {
     let mut i = 0;
     while i < LONGS {
-        number::put(log, at + 8 * i, 8, longs[i]);
+        number::put_long(log, at + 8 * i, longs[i]);
         i += 1;
     }
 }

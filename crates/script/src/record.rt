@@ -3,8 +3,10 @@ ghost use mathlib.Core.Path.{_≡_};
 ghost use mathlib.Core.List.{[], _∷_};
 ghost use Prim.Native.Nat.{_≤_};
 ghost use lib.ListN.{length};
+ghost use Rattle.script.specs.Private as private;
 ghost use Rattle.script.specs.Script as scripts;
-use crate::number::number;
+use crate::number::long;
+use crate::number::word;
 use bus::machine::Call;
 
 // A record's length.
@@ -55,10 +57,10 @@ impl Fields {
             byte_1: bytes[1],
             byte_2: bytes[2],
             byte_3: bytes[3],
-            bytes_4_7: number(bytes, 4, 4) as u32,
-            bytes_8_11: number(bytes, 8, 4) as u32,
-            bytes_12_15: number(bytes, 12, 4) as u32,
-            bytes_8_15: number(bytes, 8, 8),
+            bytes_4_7: word(bytes, 4),
+            bytes_8_11: word(bytes, 8),
+            bytes_12_15: word(bytes, 12),
+            bytes_8_15: long(bytes, 8),
         }
     }
 
@@ -74,16 +76,7 @@ impl Fields {
         if self.kind == OFFER {
             return self.offer();
         }
-        if self.kind == ADVANCE {
-            return self.advance();
-        }
-        if self.kind == SKIP {
-            return self.skip();
-        }
-        if self.kind == RESET {
-            return self.reset();
-        }
-        Call::Malformed
+        self.kinds_4_to_6()
     }
 
     fn read(self) -> Call
@@ -123,35 +116,23 @@ impl Fields {
         Call::Malformed
     }
 
-    fn advance(self) -> Call
-        ensures { λ r. ⌜ r ≡ scripts.callOn (scripts.advanceLine self) ⌝ }
+    // They all leave bytes 1 to 7 blank: one test for the three.
+    fn kinds_4_to_6(self) -> Call
+        ensures { λ r. ⌜ r ≡ scripts.callAmong (self .kind) (private.lines4to6 self) ⌝ }
     {
-        if is_blank(self.byte_1, self.byte_2, self.byte_3, self.bytes_4_7, 0) {
+        if !is_blank(self.byte_1, self.byte_2, self.byte_3, self.bytes_4_7, 0) {
+            return Call::Malformed;
+        }
+        if self.kind == ADVANCE {
             return Call::Advance(self.bytes_8_15);
         }
-        Call::Malformed
-    }
-
-    fn skip(self) -> Call
-        ensures { λ r. ⌜ r ≡ scripts.callOn (scripts.skipLine self) ⌝ }
-    {
-        if is_blank(self.byte_1, self.byte_2, self.byte_3, self.bytes_4_7, 0) {
+        if self.kind == SKIP {
             return Call::Skip(self.bytes_8_15);
         }
-        Call::Malformed
-    }
-
-    fn reset(self) -> Call
-        ensures { λ r. ⌜ r ≡ scripts.callOn (scripts.resetLine self) ⌝ }
-    {
-        if is_blank(
-            self.byte_1,
-            self.byte_2,
-            self.byte_3,
-            self.bytes_4_7,
-            self.bytes_8_15,
-        ) {
-            return Call::Reset;
+        if self.kind == RESET {
+            if self.bytes_8_15 == 0 {
+                return Call::Reset;
+            }
         }
         Call::Malformed
     }

@@ -1,17 +1,14 @@
 -- Numbers in bytes, one byte after the other. Assumes nothing.
-use Prim.Native.Nat.{ℕ, zero, suc, _+_, _*_, _-_, _^_, _/_, _%_, _≤_, _<_}
-use mathlib.Core.Path.{_≡_, refl, sym, _∙_}
+use Prim.Native.Nat.{ℕ, _+_, _*_, _^_, _/_, _%_, _≤_, _<_}
+use mathlib.Core.Path.{_≡_, refl}
 use mathlib.Core.List.{List}
 use native.Mathlib.Omega.{arith}
 use native.Mathlib.Numerals.{add-one}
-use native.Mathlib.Nat.{pow-suc, pow-le-pow-right, suc-sub-suc, sub-zero}
-use lib.ListN.{length, set}
+use native.Mathlib.Nat.{add-zero, mod-eq-of-lt, pow-suc, pow-le-pow-right}
 use mir.Syntax.{w64}
 use mir.Val.{Fits}
 use Rattle.script.specs.Number.{byte, number, encoded}
-use Rattle.script.specs.Number.Laws.{length-encoded}
-use Rattle.script.specs.Buffer.{wrote}
-use Rattle.script.proofs.Writing.{wrote-none, wrote-last}
+use Rattle.script.specs.Private.{reversed}
 
 -- A byte more of a number.
 pub number-next :
@@ -41,18 +38,42 @@ number-all bytes at i count n l k e = let same : i ≡ count = omega arith in rw
 pub below-all : (i count n : ℕ) → i ≤ count → count ≤ i → n < 256 ^ i → n < 256 ^ count
 below-all i count n l k e = let same : i ≡ count = omega arith in rw (← same) e
 
--- A number's last byte is written before the others.
-pub put-next :
-    (bytes all : List ℕ) (at left rest : ℕ) → 0 < left → at + left ≤ length bytes →
-    wrote bytes at (encoded left rest) ≡ all →
-    wrote (set bytes (at + (left - 1)) (rest % 256)) at (encoded (left - 1) (rest / 256)) ≡ all
-unfolding encoded
-put-next bytes all at zero rest l h e = absurd (omega arith)
-put-next bytes all at (suc k) rest l h e =
-    rw (suc-sub-suc k 0, sub-zero k)
-    (wrote-last bytes (encoded k (rest / 256)) at k (rest % 256) (length-encoded k (rest / 256)) (omega arith) ∙ e)
+-- The bytes of a little-endian number, in the other order.
+front-of : (n x : ℕ) → x < 256 → (n * 256 + x) / 256 ≡ n
+front-of n x l = omega arith
 
-pub put-none : (bytes all : List ℕ) (at left rest : ℕ) → left ≤ 0 → wrote bytes at (encoded left rest) ≡ all → bytes ≡ all
-unfolding encoded
-put-none bytes all at zero rest l e = sym (wrote-none bytes at) ∙ e
-put-none bytes all at (suc k) rest l e = absurd (omega arith)
+last-of : (n x : ℕ) → x < 256 → (n * 256 + x) % 256 ≡ x
+last-of n x l = omega arith
+
+pub little-reversed :
+    (bytes : List ℕ) (at a b c d : ℕ) → a ≡ byte at bytes → a < 256 → b ≡ byte (at + 1) bytes → b < 256 →
+    c ≡ byte (at + 2) bytes → c < 256 → d ≡ byte (at + 3) bytes → d < 256 →
+    reversed 4 (a + b * 256 + c * 65536 + d * 16777216) ≡ number at 4 bytes
+unfolding number encoded
+little-reversed bytes at a b c d e k f l g m h n =
+    let two = d * 256 + c in
+    let three = two * 256 + b in
+    let turned : a + b * 256 + c * 65536 + d * 16777216 ≡ three * 256 + a = omega arith in
+    rw (
+      turned,
+      last-of three a k,
+      front-of three a k,
+      last-of two b l,
+      front-of two b l,
+      last-of d c m,
+      front-of d c m,
+      mod-eq-of-lt n,
+      add-zero at,
+      ← e,
+      ← f,
+      ← g,
+      ← h,
+    ) refl
+
+pub word-reversed :
+    (n : ℕ) → n < 2 ^ 32 → n % 256 * 16777216 + n / 256 % 256 * 65536 + n / 65536 % 256 * 256 + n / 16777216 ≡ reversed 4 n
+unfolding number encoded
+word-reversed n l =
+    let twice : n / 65536 ≡ n / 256 / 256 = omega arith in
+    let thrice : n / 16777216 ≡ n / 256 / 256 / 256 % 256 = omega arith in
+    rw (twice, thrice) (omega arith)

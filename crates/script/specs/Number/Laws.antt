@@ -3,7 +3,7 @@ use Prim.Native.Nat.{ℕ, zero, suc, _+_, _*_, _^_, _/_, _%_, _≤_, _<_}
 use mathlib.Core.Path.{_≡_, refl}
 use mathlib.Core.List.{List, [], _∷_, _++_, append-assoc, append-nil}
 use native.Mathlib.Omega.{arith}
-use native.Mathlib.Nat.{zero-add, add-zero, add-suc, div-add-mod', mul-assoc, pow-suc}
+use native.Mathlib.Nat.{zero-add, add-zero, add-suc, add-assoc, div-add-mod', mul-assoc, pow-suc}
 use native.Mathlib.Nat.{div-lt-iff-lt-mul, add-mul-div-right, add-mul-mod-self-right}
 use lib.ListN.{length, length-append, List·getD-append}
 use lib.Seq.{getD-at}
@@ -29,6 +29,14 @@ encoded-join j (suc k) m n h =
     let last : (m * 256 ^ suc k + n) % 256 ≡ n % 256 = rw (shifted, add-mul-mod-self-right n (m * 256 ^ k) 256) refl in
     let below : n / 256 < 256 ^ k = div-lt-iff-lt-mul {k = 256} (omega arith) .1 (rw (← pow-suc) h) in
     rw (add-suc j k, front, last, encoded-join j k m (n / 256) below, append-assoc) refl
+
+pub number-join :
+    (at j k : ℕ) (bytes : List ℕ) → number at (j + k) bytes ≡ number at j bytes * 256 ^ k + number (at + j) k bytes
+unfolding number
+number-join at j zero bytes = rw (add-zero j) (omega arith)
+number-join at j (suc k) bytes =
+    rw (add-suc j k, number-join at j k bytes, pow-suc, ← mul-assoc (number at j bytes) (256 ^ k) 256, add-assoc at j k)
+    (omega arith)
 
 -- What was encoded is read back.
 number-front :

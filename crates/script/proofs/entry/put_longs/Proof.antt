@@ -24,7 +24,7 @@ loop-again c =
       search needs,
       search needs,
       search needs,
-      next-long _ (loop .log) _ (loop .i) _ (loop .inv .3) _ (written .put .ensures) (search needs) (search needs),
+      next-long _ (loop .log) _ (loop .i) _ (loop .inv .3) _ (written .put-long .ensures) (search needs) (search needs),
     )
 
 pub put-longs-spec : {M : Type 1} → statement M

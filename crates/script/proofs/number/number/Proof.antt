@@ -18,5 +18,5 @@ unfolding number
 number-spec =
     tie.close
     (tie.spec Inv-loop μ-loop (λ c. search needs) (λ c. search fits-scaled) (λ c. search needs) (λ c. search needs)
-    (λ c κs. search needs) (λ c. search fits-next) (λ c. search needs) (λ c. search needs)
+    (λ c κs. search needs) (λ c. search needs) (λ c. search fits-next) (λ c. search needs) (λ c. search needs)
     (λ c. (search needs, search number-next, search below-next)) (λ c. (search number-all, search below-all)))

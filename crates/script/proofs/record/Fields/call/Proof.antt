@@ -7,7 +7,5 @@ use Rattle.script.proofs.record.Fields.call.Tie as tie
 pub call-spec : {M : Type 1} → statement M
 call-spec =
     tie.close
-    (tie.spec (λ c κs. search needs) (λ c. search cases depth 20) (λ c κs. search needs)
-    (λ c. search cases depth 20) (λ c κs. search needs) (λ c. search cases depth 20) (λ c κs. search needs)
-    (λ c. search cases depth 20) (λ c κs. search needs) (λ c. search cases depth 20) (λ c κs. search needs)
-    (λ c. search cases depth 20) (λ c. search cases depth 20))
+    (tie.spec (λ c κs. search needs) (λ c. search cases depth 20) (λ c κs. search needs) (λ c. search cases depth 20)
+    (λ c κs. search needs) (λ c. search cases depth 20) (λ c κs. search needs) (λ c. search cases depth 20))
