@@ -2,6 +2,7 @@
 -- One definition a rule, under the sentence that it states, in that section's order; what several rules use stands before
 -- them: answers, CONTROL's bits, what is ill formed, and the line's level.
 pub mod View
+pub mod Call
 pub mod Laws
 use Prim.Native.Nat.{ℕ, _+_, _*_, _^_, _%_}
 use mathlib.Core.Bool.{Bool, false, true, cond, _&&_, _||_}

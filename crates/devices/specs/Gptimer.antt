@@ -3,6 +3,7 @@
 -- those that others use stand before them. Every field of the code's structs is a register or a bit of one, so the
 -- definitions are on those structs. A call of the unit is never refused: "A case that the chosen types exclude needs no
 -- test", and the code's types exclude each ill-formed state.
+pub mod Span
 pub mod Pulses
 pub mod Laws
 pub mod Direct

@@ -6,6 +6,7 @@ ghost use Prim.Native.Nat.{_≤_};
 ghost use lib.ListN.{length};
 ghost use Rattle.devices.specs.Apbuart as uart;
 ghost use Rattle.devices.specs.Fifo.{queued};
+ghost use Rattle.devices.specs.Apbuart.Call as calls;
 ghost use Rattle.devices.specs.Apbuart.View.{portOf, answerOf, Conforms};
 use crate::fifo::DEPTH;
 use crate::fifo::Fifo;
@@ -17,6 +18,13 @@ pub struct Apbuart {
     // The interrupt line's level, as the last CONTROL write, accepted byte or reset left it.
     pub level: bool,
     pub queue: Fifo,
+}
+
+// What a bus asks of a port.
+pub enum Call {
+    Read { offset: u32 },
+    Write { offset: u32, value: u32 },
+    Offer { byte: u8 },
 }
 
 // What a call on a port answers.
@@ -166,6 +174,17 @@ impl Apbuart {
             self.receive(byte)
         } else {
             Answer::refused(refusal::ILL_FORMED, self)
+        }
+    }
+
+    // Any of these three calls.
+    pub fn call(self, call: Call) -> Answer
+        ensures { λ r. ⌜ Conforms self (calls.call call (portOf self)) r ⌝ }
+    {
+        match call {
+            Call::Read { offset } => self.read(offset),
+            Call::Write { offset, value } => self.write(offset, value),
+            Call::Offer { byte } => self.offer(byte),
         }
     }
 

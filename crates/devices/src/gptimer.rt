@@ -8,6 +8,7 @@ ghost use Prim.Native.Nat.{_<_, _≤_, min};
 ghost use Rattle.devices.specs.Word.{bit};
 ghost use Rattle.devices.specs.Gptimer as gpt;
 ghost use Rattle.devices.specs.Gptimer.Direct as direct;
+ghost use Rattle.devices.specs.Gptimer.Span as spans;
 
 pub struct Timer {
     pub counter: u32,
@@ -38,6 +39,14 @@ pub struct Elapsed {
     pub pulses: [u64; 4],
     // The unit after them.
     pub unit: Gptimer,
+}
+
+// How time is to pass.
+pub enum Span {
+    // By so many cycles.
+    Cycles(u64),
+    // Until a cycle has a pulse, by so many at most.
+    ToPulse(u64),
 }
 
 // What some ticks do to a timer.
@@ -407,7 +416,24 @@ impl Gptimer {
     pub fn skip(self, limit: u64) -> Elapsed
         ensures { λ r. ⌜ r ≡ gpt.skip limit self ⌝ }
     {
-        self.advance(earlier(self.next_pulse(), limit))
+        self.pass(Span::ToPulse(limit))
+    }
+
+    // An advance or a skip. It ends in one call of `advance`, so that the compiler puts it where it is called.
+    pub fn pass(self, span: Span) -> Elapsed
+        ensures { λ r. ⌜ r ≡ spans.pass span self ⌝ }
+    {
+        self.advance(self.cycles_in(span))
+    }
+
+    // The cycles that a span comes to.
+    fn cycles_in(self, span: Span) -> u64
+        ensures { λ r. ⌜ gpt.advance r self ≡ spans.pass span self ⌝ }
+    {
+        match span {
+            Span::Cycles(cycles) => cycles,
+            Span::ToPulse(limit) => earlier(self.next_pulse(), limit),
+        }
     }
 
     // The cycle of the next pulse. Times count from 1; here and below u64::MAX stands for one that never comes, or not

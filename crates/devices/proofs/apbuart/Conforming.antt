@@ -9,10 +9,12 @@ use Rattle.devices.specs.Refusal.{notRefused}
 use Rattle.devices.specs.Fifo.{queued}
 use Rattle.devices.specs.Apbuart.{Port, Answer, depth, wellFormed, refused, accepted, emitting}
 use Rattle.devices.specs.Apbuart.{withQueue, updateLevel, oldest, younger}
+use Rattle.devices.specs.Apbuart.Call.{call}
 use Rattle.devices.specs.Apbuart.Laws.{well-queue}
 use Rattle.devices.specs.Apbuart.View.{portOf, answerOf, Conforms}
 use Rattle.devices.specs.declared.apbuart.Apbuart.{Apbuart}
 use Rattle.devices.specs.declared.apbuart.Answer as code
+use Rattle.devices.specs.declared.apbuart.Call.{Call}
 
 -- what a passed test for 9 says of the queue
 pub tested : (u : Apbuart) (b : Bool) → b ≡ wellFormed (portOf u) → b ≡ true → length (queued (u .queue)) ≤ depth
@@ -28,6 +30,10 @@ module _ (u : Apbuart) (a : code.Answer) where
   -- a test is what a call answered
   pub answered : (b t : Bool) (x y : Answer) → b ≡ t → Conforms u (cond b x y) a → Conforms u (cond t x y) a
   answered b t x y e p = rw (← e) p
+
+  -- a call by its variant
+  pub by-variant : (k v : Call) → k ≡ v → Conforms u (call v (portOf u)) a → Conforms u (call k (portOf u)) a
+  by-variant k v e h = rw e h
 
   -- an answer that is not refused
   goes-on : (x : Answer) → answerOf a ≡ x → x .refusal ≡ notRefused → Conforms u x a

@@ -9,7 +9,8 @@ use native.Mathlib.Numerals.{add-one, one-add}
 use lib.ListN.{length}
 use borrow.Author.Tests.{lt-ltb, le-ltb}
 use Rattle.devices.specs.Cases.{chosen}
-use Rattle.devices.specs.Gptimer.{place, valueAfterTick, withScaler, withTimers, noPulses, advance, skip}
+use Rattle.devices.specs.Gptimer.{place, valueAfterTick, withScaler, withTimers, noPulses, advance}
+use Rattle.devices.specs.Gptimer.Span.{pass}
 use Rattle.devices.specs.Gptimer.Direct.{stands, endsAt, onceAt, countsLeft, servedTimer, ticked, elapsed, due}
 use Rattle.devices.specs.Gptimer.Direct.{dueTick, firstTick, tickCycle}
 use Rattle.devices.specs.Gptimer.Direct.Time.{served-none, servedPulses-none, advance-elapsed}
@@ -19,6 +20,8 @@ use Rattle.devices.specs.declared.gptimer.Timer.{Timer}
 use Rattle.devices.specs.declared.gptimer.Served.{Served}
 use Rattle.devices.specs.declared.gptimer.Gptimer.{Gptimer}
 use Rattle.devices.specs.declared.gptimer.Elapsed.{Elapsed}
+use Rattle.devices.specs.declared.gptimer.Span.{Span}
+use Rattle.devices.specs.declared.gptimer.Span.the-variants.{Cycles, ToPulse}
 
 shape : (ts : List Timer) → length ts ≡ 4 → ts ≡ place ts 0 ∷ place ts 1 ∷ place ts 2 ∷ place ts 3 ∷ []
 shape ts whole =
@@ -65,13 +68,16 @@ unfolding elapsed stands
 past-tick x u n r er l e =
     rw (advance-elapsed n u, le-ltb n (suc (u .scaler)) (omega arith), ← er) (simp (add-one, one-add) at e)
 
--- a skip to the next pulse or to its limit, whichever is earlier
-pub skip-by :
-    (x : Elapsed) (u : Gptimer) (limit d n : ℕ) → length (u .timers) ≡ 4 → limit < 2 ^ 64 →
-    d ≡ tickCycle u (firstTick (u .timers)) → n ≡ min d limit → x ≡ advance n u →
-    x ≡ skip limit u
-skip-by x u limit d n whole small due earlier e =
-    rw (skip-advance limit u whole (omega arith), ← due, ← earlier) e
+-- the cycles that a span comes to: a skip goes to the next pulse or to its limit, whichever is earlier
+module _ (u : Gptimer) (span : Span) (n : ℕ) where
+  pub by-cycles : span ≡ Cycles n → advance n u ≡ pass span u
+  by-cycles e = rw e refl
+
+  pub to-pulse :
+      (limit d : ℕ) → span ≡ ToPulse limit → length (u .timers) ≡ 4 → limit < 2 ^ 64 →
+      d ≡ tickCycle u (firstTick (u .timers)) → n ≡ min d limit → advance n u ≡ pass span u
+  to-pulse limit d e whole small due earlier =
+      rw (e, skip-advance limit u whole (omega arith), ← due, ← earlier) refl
 
 -- the ticks fit into the code's words, and so does a remainder by one more than r
 pub ticks-fit : (n v p : ℕ) → v < n → n < 2 ^ 64 → 1 + (n - (v + 1)) / p < 2 ^ 64

@@ -99,3 +99,19 @@ module _ (p : Port) (w : wellFormed p ≡ true) where
   unfolding write
   write-accepted offset value =
       let register : writeRegister offset value p .refusal ≡ notRefused = search either-accepted depth 12 in rw w register
+
+-- an offered byte that is refused changes nothing
+record Unchanged (p : Port) (a : Answer) : Type 0 where
+  same : (a .refusal ≡ notRefused → ⊥) → a ≡ refused (a .refusal) p
+
+either-unchanged : (p : Port) (b : Bool) (x y : Answer) → Unchanged p x → Unchanged p y → Unchanged p (cond b x y)
+either-unchanged p b x y e f = chosen (λ c (a : Answer). Unchanged p a) b x y e f
+
+accepted-unchanged : (p q : Port) (value : ℕ) → Unchanged p (accepted value q)
+accepted-unchanged p q value = record { same = λ differs. absurd (differs refl) }
+
+pub offer-refused :
+    (p : Port) (byte : ℕ) → (offer byte p .refusal ≡ notRefused → ⊥) → offer byte p ≡ refused (offer byte p .refusal) p
+unfolding offer
+offer-refused p byte =
+    let unchanged : Unchanged p (offer byte p) = search (either-unchanged, accepted-unchanged) depth 12 in unchanged .same
