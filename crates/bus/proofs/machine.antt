@@ -1,3 +1,2 @@
 pub mod Ports
-pub mod Refusing
-pub mod Answering
+pub mod Carrying

@@ -10,4 +10,6 @@ pub mod Call
 pub mod SlowRun
 pub mod Cuts
 pub mod View
+pub mod Route
+pub mod Private
 mod Examples

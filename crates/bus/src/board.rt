@@ -6,15 +6,15 @@ ghost use Prim.Native.Nat.{_+_, _-_};
 ghost use Rattle.bus.specs.Board as board;
 
 // What answers in a window.
-pub(crate) enum Device {
+pub enum Device {
     Port(u8),
     TimerUnit,
 }
 
-pub(crate) struct Window {
-    pub(crate) base: u32,
-    pub(crate) length: u32,
-    pub(crate) device: Device,
+pub struct Window {
+    pub base: u32,
+    pub length: u32,
+    pub device: Device,
 }
 
 // Where an address lies.
@@ -23,14 +23,14 @@ pub(crate) enum Found {
     Nowhere,
 }
 
-pub(crate) struct Board {
+pub struct Board {
     // How many ports: they are 0 to one below this.
-    pub(crate) ports: u8,
-    pub(crate) windows: [Window; Board::WINDOWS],
+    pub ports: u8,
+    pub windows: [Window; Board::WINDOWS],
 }
 
 impl Window {
-    pub(crate) const LENGTH: u32 = 0x100;
+    pub const LENGTH: u32 = 0x100;
 
     // The first address behind the window, which may lie past the last 32-bit one.
     pub(crate) fn end(self) -> u64
@@ -62,9 +62,9 @@ impl Window {
 }
 
 impl Board {
-    pub(crate) const WINDOWS: usize = 7;
+    pub const WINDOWS: usize = 7;
 
-    pub(crate) const GR712RC: Board = Board {
+    pub const GR712RC: Board = Board {
         ports: 6,
         windows: [
             Window {
@@ -105,17 +105,19 @@ impl Board {
         ],
     };
 
+    // From the last window to the first, without a way out of the loop: the compiler then needs no jump for it.
     pub(crate) fn window_at(self, address: u32) -> Found
         ensures { λ r. ⌜ r ≡ board.windowAt address (self .windows) ⌝ }
     {
-        let mut i = 0;
-        while i < Self::WINDOWS {
+        let mut found = Found::Nowhere;
+        let mut i = Self::WINDOWS;
+        while 0 < i {
+            i -= 1;
             let window = self.windows[i];
             if window.holds(address) {
-                return Found::In(window);
+                found = Found::In(window);
             }
-            i += 1;
         }
-        Found::Nowhere
+        found
     }
 }

@@ -1,16 +1,17 @@
 // The machine, six serial ports and a timer unit, as a state by value, and the calls on it. Each public call answers what
 // `specs/Machine.antt` and `specs/Call.antt` define, whatever the machine and the arguments.
 ghost use mathlib.Core.Path.{_≡_};
+ghost use mathlib.Core.Bool.{true};
 ghost use Rattle.bus.specs.Machine as bus;
-ghost use Rattle.bus.specs.Call as call;
 ghost use Rattle.bus.specs.Board.{gr712rc};
-ghost use Rattle.bus.specs.View.{machineOf, answerOf, Conforms};
+ghost use Rattle.bus.specs.Route as routes;
+ghost use Rattle.bus.specs.Private.{Makes, Carried};
+ghost use Rattle.bus.specs.View.{machineOf, Conforms};
 ghost use Rattle.bus.specs.declared.machine.Call.the-variants as calls;
 ghost use Rattle.devices.specs.Apbuart.View as uart;
 use crate::board::Board;
-use crate::board::Device;
-use crate::board::Found;
 use crate::refusal;
+use crate::route::Route;
 use devices::apbuart;
 use devices::apbuart::Apbuart;
 use devices::gptimer::Elapsed;
@@ -59,9 +60,9 @@ impl Answer {
         self.machine
     }
 
-    // The refusal of a call on the machine, which comes back as it is.
+    // A refusal, of the machine as it is.
     fn refused(refusal: u8, machine: Machine) -> Self
-        ensures { λ r. ⌜ (answerOf r ≡ bus.refused refusal (machineOf machine)) × (r .machine ≡ machine) ⌝ }
+        ensures { λ r. ⌜ Makes (bus.refused refusal (machineOf machine)) machine r ⌝ }
     {
         Answer {
             refusal,
@@ -70,14 +71,14 @@ impl Answer {
             levels: machine.levels(),
             value: 0,
             cycles: 0,
-            pulses: [0, 0, 0, 0],
+            pulses: [0; 4],
             machine,
         }
     }
 
-    // An access of the timer unit, with the value that it read or 0, or a reset; `after` is the machine after it.
+    // An access of the timer unit, with the value that it read or 0, or a reset.
     fn accepted(value: u32, after: Machine) -> Self
-        ensures { λ r. ⌜ answerOf r ≡ bus.accepted value (machineOf after) ⌝ }
+        ensures { λ r. ⌜ Makes (bus.accepted value (machineOf after)) after r ⌝ }
     {
         Answer {
             refusal: refusal::NOT_REFUSED,
@@ -86,34 +87,32 @@ impl Answer {
             levels: after.levels(),
             value,
             cycles: 0,
-            pulses: [0, 0, 0, 0],
+            pulses: [0; 4],
             machine: after,
         }
     }
 
-    // An access or a byte that port n of the machine answered.
-    fn of_port(n: u8, answer: apbuart::Answer, machine: Machine) -> Self
-        ensures { λ r. ⌜ answerOf r ≡ bus.ofPort n (uart.answerOf answer) (machineOf machine) ⌝ }
+    // A port's own answer, with its number.
+    fn of_port(answer: apbuart::Answer, after: Machine) -> Self
+        ensures { λ r. ⌜ Makes (routes.ofPort (uart.answerOf answer) (machineOf after)) after r ⌝ }
     {
-        let after = machine.with_port(n, answer.port);
         Answer {
-            refusal: refusal::NOT_REFUSED,
+            refusal: answer.refusal,
             emitted: answer.emitted,
             byte: answer.byte,
             levels: after.levels(),
             value: answer.value,
             cycles: 0,
-            pulses: [0, 0, 0, 0],
+            pulses: [0; 4],
             machine: after,
         }
     }
 
-    // A span of time that the timer unit of the machine passed.
-    fn of_span(elapsed: Elapsed, machine: Machine) -> Self
-        ensures { λ r. ⌜ answerOf r ≡ bus.ofSpan elapsed (machineOf machine) ⌝ }
+    // A span of time that the timer unit passed.
+    fn of_span(elapsed: Elapsed, after: Machine) -> Self
+        ensures { λ r. ⌜ Makes (routes.ofSpan elapsed (machineOf after)) after r ⌝ }
     {
         let pulses = elapsed.pulses;
-        let after = machine.with_unit(elapsed.unit);
         Answer {
             refusal: refusal::NOT_REFUSED,
             emitted: false,
@@ -131,7 +130,7 @@ impl Machine {
     // Ports 0 to 5.
     pub const PORTS: usize = 6;
 
-    pub(crate) const BOARD: Board = Board::GR712RC;
+    pub const BOARD: Board = Board::GR712RC;
 
     pub fn reset_state() -> Self
         ensures { λ r. ⌜ machineOf r ≡ bus.resetState gr712rc ⌝ }
@@ -160,7 +159,7 @@ impl Machine {
     }
 
     // The line levels as they are, bit p for port p.
-    pub(crate) fn levels(self) -> u8
+    pub fn levels(self) -> u8
         ensures { λ r. ⌜ r ≡ bus.levels (machineOf self) ⌝ }
     {
         let mut levels = 0;
@@ -175,211 +174,88 @@ impl Machine {
     pub fn read(self, address: u32, size: u8) -> Answer
         ensures { λ r. ⌜ Conforms self (calls.Read address size) r ⌝ }
     {
-        let found = Self::BOARD.window_at(address);
-        let number = self.access_refusal(address, size, found);
-        if number != refusal::NOT_REFUSED {
-            return Answer::refused(number, self);
-        }
-        self.read_found(address, found)
+        self.call(Call::Read { address, size })
     }
 
     pub fn write(self, address: u32, size: u8, value: u32) -> Answer
         ensures { λ r. ⌜ Conforms self (calls.Write address size value) r ⌝ }
     {
-        let found = Self::BOARD.window_at(address);
-        let number = self.access_refusal(address, size, found);
-        if number != refusal::NOT_REFUSED {
-            return Answer::refused(number, self);
-        }
-        self.write_found(address, value, found)
+        self.call(Call::Write {
+            address,
+            size,
+            value,
+        })
     }
 
     // A byte is offered to a port.
     pub fn offer(self, port: u8, byte: u8) -> Answer
         ensures { λ r. ⌜ Conforms self (calls.Offer port byte) r ⌝ }
     {
-        if !self.well_formed() {
-            return Answer::refused(refusal::ILL_FORMED, self);
-        }
-        if Self::BOARD.ports <= port {
-            return Answer::refused(refusal::NO_PORT, self);
-        }
-        let answer = self.port(port).offer(byte);
-        if answer.refusal != refusal::NOT_REFUSED {
-            return Answer::refused(answer.refusal, self);
-        }
-        Answer::of_port(port, answer, self)
+        self.call(Call::Offer { port, byte })
     }
 
     pub fn advance(self, cycles: u64) -> Answer
         ensures { λ r. ⌜ Conforms self (calls.Advance cycles) r ⌝ }
     {
-        if !self.well_formed() {
-            return Answer::refused(refusal::ILL_FORMED, self);
-        }
-        Answer::of_span(self.unit.advance(cycles), self)
+        self.call(Call::Advance(cycles))
     }
 
     pub fn skip(self, limit: u64) -> Answer
         ensures { λ r. ⌜ Conforms self (calls.Skip limit) r ⌝ }
     {
-        if !self.well_formed() {
-            return Answer::refused(refusal::ILL_FORMED, self);
-        }
-        Answer::of_span(self.unit.skip(limit), self)
+        self.call(Call::Skip(limit))
     }
 
     pub fn reset(self) -> Answer
         ensures { λ r. ⌜ Conforms self calls.Reset r ⌝ }
     {
-        let after = Self::reset_state();
-        if self.well_formed() {
-            Answer::accepted(0, after)
-        } else {
-            Answer::refused(refusal::ILL_FORMED, self)
-        }
+        self.call(Call::Reset)
     }
 
     pub fn malformed(self) -> Answer
         ensures { λ r. ⌜ Conforms self calls.Malformed r ⌝ }
     {
-        if !self.well_formed() {
-            return Answer::refused(refusal::ILL_FORMED, self);
-        }
-        Answer::refused(refusal::BAD_RECORD, self)
+        self.call(Call::Malformed)
     }
 
     // Any of these calls.
     pub fn call(self, call: Call) -> Answer
         ensures { λ r. ⌜ Conforms self call r ⌝ }
     {
-        match call {
-            Call::Read { address, size } => self.read(address, size),
-            Call::Write {
-                address,
-                size,
-                value,
-            } => self.write(address, size, value),
-            Call::Offer { port, byte } => self.offer(port, byte),
-            Call::Advance(cycles) => self.advance(cycles),
-            Call::Skip(limit) => self.skip(limit),
-            Call::Reset => self.reset(),
-            Call::Malformed => self.malformed(),
-        }
-    }
-
-    // The refusal number of an access: 9, then 1 to 5 in that order. `found` is the window that its address lies in. The sum
-    // of an address and a size may lie past the last 32-bit number.
-    fn access_refusal(self, address: u32, size: u8, found: Found) -> u8
-        ensures { λ r. ⌜ r ≡ call.refusal (call.access address size found) (machineOf self) ⌝ }
-    {
-        if !self.well_formed() {
-            return refusal::ILL_FORMED;
-        }
-        if !is_size(size) {
-            return refusal::BAD_SIZE;
-        }
-        let Found::In(window) = found else {
-            return refusal::NO_WINDOW;
-        };
-        if window.end() < address as u64 + size as u64 {
-            return refusal::PAST_WINDOW;
-        }
-        if address % size as u32 != 0 {
-            return refusal::MISALIGNED;
-        }
-        if size == 4 {
-            refusal::NOT_REFUSED
+        if self.well_formed() {
+            self.carry_out(Route::of(Self::BOARD, call))
         } else {
-            refusal::NOT_A_WORD
+            Answer::refused(refusal::ILL_FORMED, self)
         }
     }
 
-    fn read_found(self, address: u32, found: Found) -> Answer
-        ensures { λ r. ⌜ answerOf r ≡ call.reach (call.readDevice (machineOf self)) (machineOf self) address found ⌝ }
+    // What a call leads to. The arms are those of a run's loop (crate `script`), which has its machine in a local and stores
+    // there what changed.
+    fn carry_out(mut self, route: Route) -> Answer
+        requires { ⌜ routes.isThere 6 route ≡ true ⌝ }
+        ensures { λ r. ⌜ Carried self route r ⌝ }
     {
-        match found {
-            Found::In(window) => {
-                let device = window.device;
-                self.read_device(device, window.offset(address))
+        match route {
+            Route::Refused(number) => Answer::refused(number, self),
+            Route::Port { n, call } => {
+                let answer = self.ports[n].call(call);
+                let port = answer.port;
+                self.ports[n] = port;
+                Answer::of_port(answer, self)
             }
-            // Refused before, so never asked for.
-            Found::Nowhere => Answer::accepted(0, self),
-        }
-    }
-
-    fn write_found(self, address: u32, value: u32, found: Found) -> Answer
-        ensures { λ r. ⌜ answerOf r ≡ call.reach (call.writeDevice value (machineOf self)) (machineOf self) address found ⌝ }
-    {
-        match found {
-            Found::In(window) => {
-                let device = window.device;
-                self.write_device(device, window.offset(address), value)
+            Route::ReadUnit { offset } => Answer::accepted(self.unit.read(offset), self),
+            Route::WriteUnit { offset, value } => {
+                let unit = self.unit.write(offset, value);
+                self.unit = unit;
+                Answer::accepted(0, self)
             }
-            // Refused before, so never asked for.
-            Found::Nowhere => Answer::accepted(0, self),
+            Route::Pass(span) => {
+                let elapsed = self.unit.pass(span);
+                let unit = elapsed.unit;
+                self.unit = unit;
+                Answer::of_span(elapsed, self)
+            }
+            Route::Reset => Answer::accepted(0, Self::reset_state()),
         }
     }
-
-    fn read_device(self, device: Device, offset: u32) -> Answer
-        ensures { λ r. ⌜ answerOf r ≡ call.readDevice (machineOf self) device offset ⌝ }
-    {
-        match device {
-            Device::Port(n) => Answer::of_port(n, self.port(n).read(offset), self),
-            Device::TimerUnit => Answer::accepted(self.unit.read(offset), self),
-        }
-    }
-
-    fn write_device(self, device: Device, offset: u32, value: u32) -> Answer
-        ensures { λ r. ⌜ answerOf r ≡ call.writeDevice value (machineOf self) device offset ⌝ }
-    {
-        match device {
-            Device::Port(n) => Answer::of_port(n, self.port(n).write(offset, value), self),
-            Device::TimerUnit => Answer::accepted(
-                0,
-                self.with_unit(self.unit.write(offset, value)),
-            ),
-        }
-    }
-
-    // Port n. A port that the machine does not have is refused before, so never asked for, here and below.
-    fn port(self, n: u8) -> Apbuart
-        ensures { λ r. ⌜ uart.portOf r ≡ bus.portAt n (machineOf self) ⌝ }
-    {
-        let i = n as usize;
-        if i < Self::PORTS {
-            self.ports[i]
-        } else {
-            Apbuart::reset_state()
-        }
-    }
-
-    fn with_port(mut self, n: u8, port: Apbuart) -> Self
-        ensures { λ r. ⌜ machineOf r ≡ bus.withPort n (uart.portOf port) (machineOf self) ⌝ }
-    {
-        let i = n as usize;
-        if i < Self::PORTS {
-            self.ports[i] = port;
-        }
-        self
-    }
-
-    fn with_unit(mut self, unit: Gptimer) -> Self
-        ensures { λ r. ⌜ machineOf r ≡ bus.withUnit unit (machineOf self) ⌝ }
-    {
-        self.unit = unit;
-        self
-    }
-}
-
-fn is_size(size: u8) -> bool
-    ensures { λ r. ⌜ r ≡ call.isSize size ⌝ }
-{
-    if size == 1 {
-        return true;
-    }
-    if size == 2 {
-        return true;
-    }
-    size == 4
 }

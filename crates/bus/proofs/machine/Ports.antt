@@ -1,12 +1,11 @@
 -- The ports of a machine, as the code goes through them. Assumes nothing.
-use Prim.Native.Nat.{ℕ, zero, suc, _+_, _*_, _-_, _^_, _≤_, _<_}
-use mathlib.Core.Path.{_≡_, refl, sym, ap, _∙_}
+use Prim.Native.Nat.{ℕ, _+_, _*_, _-_, _^_, _≤_, _<_}
+use mathlib.Core.Path.{_≡_, refl, ap, _∙_}
 use mathlib.Core.Bool.{Bool, true, false, cond}
 use mathlib.Core.List.{List, [], _∷_, map}
 use native.Mathlib.Omega.{arith}
-use native.Mathlib.Nat.{pow-suc, pow-le-pow-right, suc-sub-suc, sub-zero}
-use lib.ListN.{length, getD, set, drop, drop-of-length-le, length-map, length-drop, List·getD-eq-default}
-use lib.Seq.{drop-cons, set-out}
+use native.Mathlib.Nat.{pow-suc, pow-le-pow-right}
+use lib.ListN.{length, getD, drop, length-map, length-drop}
 use mir.Syntax.{w8}
 use mir.Val.{boolByte, Fits}
 use Rattle.devices.specs.Cases.{chosen}
@@ -14,7 +13,7 @@ use Rattle.devices.specs.Apbuart as uart
 use Rattle.devices.specs.Apbuart.View.{portOf}
 use Rattle.devices.specs.declared.apbuart.Apbuart.{Apbuart}
 use Rattle.bus.specs.Machine.{allWell, levelsOf}
-use Rattle.bus.proofs.Loops.{at-place, at-end}
+use Rattle.bus.proofs.Loops.{at-place, at-end, none-yet, place-before, all-done}
 
 -- Whether every port is well formed, from each place on.
 abbrev wellPorts : List Apbuart → Bool
@@ -72,41 +71,15 @@ module _ (ps : List Apbuart) (i x : ℕ) (whole : length ps ≡ 6) (so-far : x �
 
 pub levels-none : (ps : List Apbuart) → length ps ≡ 6 → 0 ≡ levelsOf (map portOf (drop 6 ps))
 unfolding levelsOf
-levels-none ps whole = rw (drop-of-length-le ps {i = 6} (omega arith)) refl
+levels-none ps whole = rw (none-yet ps 6 whole) refl
 
 pub levels-more :
     (ps : List Apbuart) (n i x : ℕ) (z : Apbuart) → length ps ≡ n → 0 < i → i ≤ n →
     x ≡ levelsOf (map portOf (drop i ps)) →
     x * 2 + boolByte (getD ps (i - 1) z .level) ≡ levelsOf (map portOf (drop (i - 1) ps))
 unfolding levelsOf
-levels-more ps n zero x z whole l k e = absurd (omega arith)
-levels-more ps n (suc j) x z whole l k e =
-    rw (suc-sub-suc j 0, sub-zero j, drop-cons ps j z (omega arith), e, byte-level)
-    (omega arith)
+levels-more ps n i x z whole l k e = rw (place-before ps n i z whole l k, e, byte-level) (omega arith)
 
 pub levels-all :
     (ps : List Apbuart) (i x : ℕ) → i ≤ 0 → x ≡ levelsOf (map portOf (drop i ps)) → x ≡ levelsOf (map portOf ps)
-levels-all ps zero x l e = e
-levels-all ps (suc j) x l e = absurd (omega arith)
-
--- One port.
-pub ports-set : (ps : List Apbuart) (i : ℕ) (p : Apbuart) → map portOf (set ps i p) ≡ set (map portOf ps) i (portOf p)
-ports-set [] i p = refl
-ports-set (q ∷ ps) zero p = refl
-ports-set (q ∷ ps) (suc i) p = ap {B = List uart.Port} (λ rest. portOf q ∷ rest) (ports-set ps i p)
-
-there :
-    (ps : List Apbuart) (i : ℕ) (z : Apbuart) → i < length ps → portOf (getD ps i z) ≡ getD (map portOf ps) i uart.resetState
-there [] i z l = absurd (omega arith)
-there (p ∷ ps) zero z l = refl
-there (p ∷ ps) (suc i) z l = there ps i z (omega arith)
-
-module _ (ps : List Apbuart) (n i : ℕ) (whole : length ps ≡ n) where
-  pub port-there : (z : Apbuart) → i < n → portOf (getD ps i z) ≡ getD (map portOf ps) i uart.resetState
-  port-there z l = there ps i z (omega arith)
-
-  pub port-none : (p : uart.Port) → n ≤ i → p ≡ uart.resetState → p ≡ getD (map portOf ps) i uart.resetState
-  port-none p l e = e ∙ sym (List·getD-eq-default (map portOf ps) uart.resetState {n = i} (rw length-map (omega arith)))
-
-  pub port-not-set : (p : uart.Port) → n ≤ i → map portOf ps ≡ set (map portOf ps) i p
-  port-not-set p l = sym (set-out (map portOf ps) i p (rw length-map (omega arith)))
+levels-all ps i x l e = e ∙ ap (λ (qs : List Apbuart). levelsOf (map portOf qs)) (all-done ps i l)

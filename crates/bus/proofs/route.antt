@@ -1,0 +1,3 @@
+pub mod Refusing
+pub mod Routing
+pub mod Leading

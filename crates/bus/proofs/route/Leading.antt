@@ -1,0 +1,161 @@
+-- On a well-formed machine a call's answer is that of its route carried out; and a port that a route names is there. Assumes
+-- nothing.
+use Prim.Native.Nat.{ℕ}
+use mathlib.Core.Path.{_≡_, refl, sym, ap, _∙_}
+use mathlib.Core.Bool.{Bool, true, cond, and-eq-true-iff}
+use mathlib.Core.List.{List, [], _∷_}
+use native.Mathlib.Decide.{ℕ-discrete}
+use native.Mathlib.Omega.{arith}
+use lib.Dec.{eqb, leb}
+use lib.Seq.{set-getD}
+use borrow.Author.Tests.{leb-false, lt-ltb}
+use Rattle.devices.specs.Cases.{chosen, tested}
+use Rattle.devices.specs.Refusal.{notRefused}
+use Rattle.devices.specs.Apbuart as uart
+use Rattle.devices.specs.Apbuart.Laws.{read-accepted, write-accepted, offer-refused}
+use Rattle.bus.specs.Refusal.{badRecord}
+use Rattle.bus.specs.Board.{allThere, isThere, holds, windowAt}
+use Rattle.bus.specs.Machine.{Machine, Answer, portAt, wellFormed, refused, ofPort}
+use Rattle.bus.specs.Call.{byteFor, readDevice, writeDevice, reach, execute, windowOf, subject, answer, refusal}
+use Rattle.bus.specs.Call.Laws.{answer-executed, answer-refused, well-at, no-port-number, offer-number, other-number}
+use Rattle.bus.specs.Route as routes
+use Rattle.bus.specs.Route.{portCalled, carriedOut, Leads}
+use Rattle.bus.specs.Private.{accessNumber, reads, writes, reached, accessed, offered, route}
+use Rattle.bus.specs.declared.board.Window.{Window}
+use Rattle.bus.specs.declared.board.Device.{Device}
+use Rattle.bus.specs.declared.board.Device.the-variants.{Port, TimerUnit}
+use Rattle.bus.specs.declared.board.Board.{Board}
+use Rattle.bus.specs.declared.board.Found.{Found}
+use Rattle.bus.specs.declared.board.Found.the-variants.{In, Nowhere}
+use Rattle.bus.specs.declared.machine.Call.{Call}
+use Rattle.bus.specs.declared.machine.Call.the-variants.{Read, Write, Offer, Advance, Skip, Reset, Malformed}
+use Rattle.bus.specs.declared.route.Route.{Route}
+use Rattle.bus.specs.declared.route.Route.the-variants.{Refused}
+
+-- what a port answers that does not refuse
+called : (n : ℕ) (a : uart.Answer) (m : Machine) → a .refusal ≡ notRefused → ofPort n a m ≡ portCalled n a m
+called n a m e = rw e refl
+
+module _ (m : Machine) (w : wellFormed m ≡ true) where
+  reads-out : (d : Device) (offset : ℕ) → readDevice m d offset ≡ carriedOut (reads d offset) m
+  unfolding carriedOut
+  reads-out (Port n) offset =
+      called n (uart.read offset (portAt n m)) m (read-accepted (portAt n m) (well-at (m .ports) n w) offset)
+  reads-out TimerUnit offset = refl
+
+  writes-out : (value : ℕ) (d : Device) (offset : ℕ) → writeDevice value m d offset ≡ carriedOut (writes value d offset) m
+  unfolding carriedOut
+  writes-out value (Port n) offset =
+      called n (uart.write offset value (portAt n m)) m (write-accepted (portAt n m) (well-at (m .ports) n w) offset value)
+  writes-out value TimerUnit offset = refl
+
+  -- an access, by its number: those of the table look at no machine
+  module _
+      (c : Call) (reply : Device → ℕ → Answer) (own : Device → ℕ → Route) (address size : ℕ)
+      (out : (d : Device) (offset : ℕ) → reply d offset ≡ carriedOut (own d offset) m) where
+    reached-out : (found : Found) → reach reply m address found ≡ carriedOut (reached own address found) m
+    unfolding carriedOut
+    reached-out (In v) = out (v .device) _
+    reached-out Nowhere = refl
+
+    accessed-out :
+        (found : Found) → refusal (subject c m) m ≡ accessNumber address size found →
+        execute c m ≡ reach reply m address found → answer c m ≡ carriedOut (accessed own address size found) m
+    unfolding carriedOut answer
+    accessed-out found e f =
+        let n = accessNumber address size found in
+        rw (e, f, reached-out found)
+        (chosen (λ b (x : Route). cond b (carriedOut (reached own address found) m) (refused n m) ≡ carriedOut x m)
+        (eqb n notRefused) (reached own address found) (Refused n) refl refl)
+
+  -- an offered byte: one that the port refuses changes nothing
+  same-port : (n k : ℕ) → refused k m ≡ portCalled n (uart.refused k (portAt n m)) m
+  same-port n k = rw (set-getD (m .ports) n uart.resetState) refl
+
+  offered-out : (n byte : ℕ) → answer (Offer n byte) m ≡ carriedOut (offered (m .board) n byte) m
+  unfolding carriedOut
+  offered-out n byte =
+      tested (leb (m .board .ports) n)
+      (λ beyond.
+      rw beyond (answer-refused (Offer n byte) m _ (no-port-number n m w beyond) (λ z. absurd (omega arith))))
+      (λ there.
+      let a = uart.offer byte (portAt n m) in
+      let own : a .refusal ≡ refusal (byteFor n) m = sym (offer-number n byte m w there) in
+      rw there
+      (elim (ℕ-discrete (a .refusal) notRefused) [
+        | yes z ↦ answer-executed (Offer n byte) m (sym own ∙ z) ∙ called n a m z
+        | no differs ↦
+            answer-refused (Offer n byte) m (a .refusal) own differs ∙ same-port n (a .refusal) ∙
+            ap (λ (x : uart.Answer). portCalled n x m) (sym (offer-refused (portAt n m) byte differs))
+      ]))
+
+  routed : (c : Call) → answer c m ≡ carriedOut (route (m .board) c) m
+  unfolding route refusal carriedOut
+  routed (Read address size) =
+      accessed-out (Read address size) (readDevice m) reads address size reads-out (windowOf address m) (rw w refl) refl
+  routed (Write address size value) =
+      accessed-out (Write address size value) (writeDevice value m) (writes value) address size (writes-out value)
+      (windowOf address m) (rw w refl) refl
+  routed (Offer n byte) = offered-out n byte
+  routed (Advance cycles) = answer-executed (Advance cycles) m (other-number m w)
+  routed (Skip limit) = answer-executed (Skip limit) m (other-number m w)
+  routed Reset = answer-executed Reset m (other-number m w)
+  routed Malformed = answer-refused Malformed m badRecord (rw w refl) (λ z. absurd (omega arith))
+
+-- The window that is found is one of the table's.
+abbrev foundThere : ℕ → Found → Bool
+foundThere k (In w) = isThere k (w .device)
+foundThere k Nowhere = true
+
+found-there : (k address : ℕ) (ws : List Window) → allThere k ws ≡ true → foundThere k (windowAt address ws) ≡ true
+found-there k address [] t = refl
+found-there k address (w ∷ ws) t =
+    let each = and-eq-true-iff (isThere k (w .device)) (allThere k ws) .0 t in
+    chosen (λ b (f : Found). foundThere k f ≡ true) (holds address w) (In w) (windowAt address ws) (each .0)
+    (found-there k address ws (each .1))
+
+module _ (k : ℕ) where
+  reads-there : (d : Device) (offset : ℕ) → isThere k d ≡ true → routes.isThere k (reads d offset) ≡ true
+  reads-there (Port n) offset t = t
+  reads-there TimerUnit offset t = refl
+
+  writes-there : (value : ℕ) (d : Device) (offset : ℕ) → isThere k d ≡ true → routes.isThere k (writes value d offset) ≡ true
+  writes-there value (Port n) offset t = t
+  writes-there value TimerUnit offset t = refl
+
+  module _
+      (own : Device → ℕ → Route)
+      (own-there : (d : Device) (offset : ℕ) → isThere k d ≡ true → routes.isThere k (own d offset) ≡ true) where
+    reached-there : (address : ℕ) (found : Found) → foundThere k found ≡ true → routes.isThere k (reached own address found) ≡ true
+    reached-there address (In w) t = own-there (w .device) _ t
+    reached-there address Nowhere t = refl
+
+    accessed-there :
+        (address size : ℕ) (ws : List Window) → allThere k ws ≡ true →
+        routes.isThere k (accessed own address size (windowAt address ws)) ≡ true
+    accessed-there address size ws t =
+        let n = accessNumber address size (windowAt address ws) in
+        chosen (λ b (r : Route). routes.isThere k r ≡ true) (eqb n notRefused) (reached own address (windowAt address ws))
+        (Refused n) (reached-there address (windowAt address ws) (found-there k address ws t)) refl
+
+route-there :
+    (b : Board) (c : Call) → allThere (b .ports) (b .windows) ≡ true → routes.isThere (b .ports) (route b c) ≡ true
+unfolding route
+route-there b (Read address size) t = accessed-there (b .ports) reads (reads-there (b .ports)) address size (b .windows) t
+route-there b (Write address size value) t =
+    accessed-there (b .ports) (writes value) (writes-there (b .ports) value) address size (b .windows) t
+route-there b (Offer n byte) t =
+    tested (leb (b .ports) n) (λ beyond. rw beyond refl)
+    (λ there. rw there (lt-ltb n (b .ports) (leb-false (b .ports) n there)))
+route-there b (Advance cycles) t = refl
+route-there b (Skip limit) t = refl
+route-there b Reset t = refl
+route-there b Malformed t = refl
+
+-- A call by its variant leads where its route says.
+pub leads : (b : Board) (c v : Call) (r : Route) → c ≡ v → r ≡ route b v → Leads b c r
+leads b c v r e f =
+    record {
+      answers = λ m g w. routed m w c ∙ rw (g, e, ← f) refl;
+      there = λ t. rw (f, ← e) (route-there b c t);
+    }

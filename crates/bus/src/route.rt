@@ -1,0 +1,149 @@
+// Where a call leads on a board. The board and the call decide it, no state: the call is refused with a number that no state
+// decides (1 to 6 and 10), or it is one device's own call, a span of time or a reset. 9 is judged apart, 7 and 8 by the port.
+ghost use mathlib.Core.Path.{_≡_};
+ghost use Prim.Native.Nat.{_<_};
+ghost use Rattle.bus.specs.Board.{windowAt};
+ghost use Rattle.bus.specs.Route.{Leads};
+ghost use Rattle.bus.specs.Private as private;
+use crate::board::Board;
+use crate::board::Device;
+use crate::board::Found;
+use crate::machine::Call;
+use crate::refusal;
+use devices::apbuart;
+use devices::gptimer::Span;
+
+pub enum Route {
+    Refused(u8),
+    Port { n: usize, call: apbuart::Call },
+    ReadUnit { offset: u32 },
+    WriteUnit { offset: u32, value: u32 },
+    Pass(Span),
+    Reset,
+}
+
+impl Route {
+    pub fn of(board: Board, call: Call) -> Self
+        ensures { λ r. ⌜ Leads board call r ⌝ }
+    {
+        match call {
+            Call::Read { address, size } => Self::read(board, address, size),
+            Call::Write {
+                address,
+                size,
+                value,
+            } => Self::write(board, address, size, value),
+            Call::Offer { port, byte } => Self::offer(board, port, byte),
+            Call::Advance(cycles) => Route::Pass(Span::Cycles(cycles)),
+            Call::Skip(limit) => Route::Pass(Span::ToPulse(limit)),
+            Call::Reset => Route::Reset,
+            Call::Malformed => Route::Refused(refusal::BAD_RECORD),
+        }
+    }
+
+    fn read(board: Board, address: u32, size: u8) -> Self
+        ensures { λ r. ⌜ r ≡ private.accessed private.reads address size (windowAt address (board .windows)) ⌝ }
+    {
+        let found = board.window_at(address);
+        let number = access_refusal(address, size, found);
+        if number != refusal::NOT_REFUSED {
+            return Route::Refused(number);
+        }
+        match found {
+            Found::In(window) => {
+                let device = window.device;
+                Self::read_device(device, window.offset(address))
+            }
+            // Refused before, so never asked for, here and below.
+            Found::Nowhere => Route::Refused(refusal::NOT_REFUSED),
+        }
+    }
+
+    fn write(board: Board, address: u32, size: u8, value: u32) -> Self
+        ensures { λ r. ⌜ r ≡ private.accessed (private.writes value) address size (windowAt address (board .windows)) ⌝ }
+    {
+        let found = board.window_at(address);
+        let number = access_refusal(address, size, found);
+        if number != refusal::NOT_REFUSED {
+            return Route::Refused(number);
+        }
+        match found {
+            Found::In(window) => {
+                let device = window.device;
+                Self::write_device(device, window.offset(address), value)
+            }
+            Found::Nowhere => Route::Refused(refusal::NOT_REFUSED),
+        }
+    }
+
+    fn offer(board: Board, port: u8, byte: u8) -> Self
+        ensures { λ r. ⌜ r ≡ private.offered board port byte ⌝ }
+    {
+        if board.ports <= port {
+            return Route::Refused(refusal::NO_PORT);
+        }
+        Route::Port {
+            n: port as usize,
+            call: apbuart::Call::Offer { byte },
+        }
+    }
+
+    fn read_device(device: Device, offset: u32) -> Self
+        ensures { λ r. ⌜ r ≡ private.reads device offset ⌝ }
+    {
+        match device {
+            Device::Port(n) => Route::Port {
+                n: n as usize,
+                call: apbuart::Call::Read { offset },
+            },
+            Device::TimerUnit => Route::ReadUnit { offset },
+        }
+    }
+
+    fn write_device(device: Device, offset: u32, value: u32) -> Self
+        ensures { λ r. ⌜ r ≡ private.writes value device offset ⌝ }
+    {
+        match device {
+            Device::Port(n) => Route::Port {
+                n: n as usize,
+                call: apbuart::Call::Write { offset, value },
+            },
+            Device::TimerUnit => Route::WriteUnit { offset, value },
+        }
+    }
+}
+
+// The refusal number of an access: 1, then what the others are at this size. Here the size is a constant at each call, so
+// that no remainder is a division.
+fn access_refusal(address: u32, size: u8, found: Found) -> u8
+    ensures { λ r. ⌜ r ≡ private.accessNumber address size found ⌝ }
+{
+    if size == 4 {
+        return place_refusal(address, 4, found, refusal::NOT_REFUSED);
+    }
+    if size == 2 {
+        return place_refusal(address, 2, found, refusal::NOT_A_WORD);
+    }
+    if size == 1 {
+        return place_refusal(address, 1, found, refusal::NOT_A_WORD);
+    }
+    refusal::BAD_SIZE
+}
+
+// 2 to 4 in that order, or `number` where none of them is given. The sum of an address and a size may lie past the last 32-bit
+// number.
+fn place_refusal(address: u32, size: u32, found: Found, number: u8) -> u8
+    requires { ⌜ (0 < size) × (size < 5) ⌝ }
+    ensures { λ r. ⌜ r ≡ private.placeNumber address size number found ⌝ }
+{
+    let Found::In(window) = found else {
+        return refusal::NO_WINDOW;
+    };
+    if window.end() < address as u64 + size as u64 {
+        return refusal::PAST_WINDOW;
+    }
+    if address % size != 0 {
+        return refusal::MISALIGNED;
+    }
+    number
+}
