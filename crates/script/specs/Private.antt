@@ -3,13 +3,10 @@ use Prim.Native.Nat.{ℕ}
 use mathlib.Core.Path.{_≡_}
 use mathlib.Core.Bool.{Bool, cond}
 use mathlib.Core.List.{List, [], _∷_, _++_, reverse}
-use Rattle.bus.specs.Machine as bus
 use Rattle.bus.specs.View.{machineOf}
 use Rattle.bus.specs.declared.machine.Machine.{Machine}
 use Rattle.script.specs.Number.{number, encoded}
-use Rattle.script.specs.Buffer.{wrote}
 use Rattle.script.specs.Script.{Line, advanceLine, skipLine, resetLine}
-use Rattle.script.specs.Log.{entry}
 use Rattle.script.specs.Run.{Ran}
 use Rattle.script.specs.declared.record.Fields.{Fields}
 
@@ -34,12 +31,12 @@ abbrev pub firstLong : (refusal : ℕ) (emitted : Bool) (byte levels value : ℕ
 firstLong refusal emitted byte levels value =
     encoded 1 refusal ++ encoded 1 (cond emitted 1 0) ++ encoded 1 byte ++ encoded 1 levels ++ encoded 4 value
 
+-- a log record of a call in which no time passed
+abbrev pub atOnce : (refusal : ℕ) (emitted : Bool) (byte levels value : ℕ) → List ℕ
+atOnce refusal emitted byte levels value =
+    firstLong refusal emitted byte levels value ++ longs (0 ∷ 0 ∷ 0 ∷ 0 ∷ 0 ∷ [])
+
 -- The machine that some records leave, and the log that they are written to.
 pub record Played (d : Ran) (m : Machine) (bytes : List ℕ) : Type 0 where
   pub log : bytes ≡ d .log
   pub machine : machineOf m ≡ d .machine
-
--- One record, with its answer, is logged from a place on.
-pub record Stepped (a : bus.Answer) (before : List ℕ) (at : ℕ) (m : Machine) (bytes : List ℕ) : Type 0 where
-  pub log : bytes ≡ wrote before at (entry a)
-  pub machine : machineOf m ≡ a .machine

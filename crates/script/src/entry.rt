@@ -3,13 +3,19 @@ ghost use mathlib.Core.Path.{_≡_};
 ghost use mathlib.Core.Bool.{cond};
 ghost use Prim.Native.Nat.{_+_, _*_, _≤_};
 ghost use lib.ListN.{length};
-ghost use Rattle.bus.specs.View.{answerOf};
+ghost use Rattle.devices.specs.Apbuart.View as uart;
+ghost use Rattle.bus.specs.Machine as bus;
+ghost use Rattle.bus.specs.Route as routes;
+ghost use Rattle.bus.specs.View.{machineOf};
 ghost use Rattle.script.specs.Log as logs;
 ghost use Rattle.script.specs.Number as big;
 ghost use Rattle.script.specs.Private as private;
 ghost use Rattle.script.specs.Buffer.{wrote};
 use crate::number;
-use bus::machine::Answer;
+use bus::machine::Machine;
+use bus::refusal;
+use devices::apbuart;
+use devices::gptimer::Elapsed;
 
 // A record is six numbers of 8 bytes: the refusal number to the value read, the cycles passed, and the pulses of each timer in them.
 const LONGS: usize = 6;
@@ -17,28 +23,71 @@ const LONGS: usize = 6;
 // A record's length.
 pub const LENGTH: usize = 48;
 
-// Puts the log record of an answer into the log, from `at` on.
-pub(crate) fn put(log: &mut [u8], at: usize, answer: Answer)
+// Each of these puts a log record into the log, from `at` on; `machine` is the machine after the call. A refusal:
+pub(crate) fn refused(log: &mut [u8], at: usize, refusal: u8, machine: Machine)
     requires { ⌜ at + logs.entryLength ≤ length (now log) ⌝ }
-    ensures { λ r. ⌜ now (log .exit) ≡ wrote (now (log .entry)) at (logs.entry (answerOf answer)) ⌝ }
+    ensures { λ r. ⌜ now (log .exit) ≡ wrote (now (log .entry)) at (logs.entry (bus.refused refusal (machineOf machine))) ⌝ }
 {
-    let pulses = answer.pulses;
-    let first = first_long(
+    put(log, at, refusal, false, 0, machine.levels(), 0);
+}
+
+// An access of the timer unit, with the value that it read or 0, or a reset.
+pub(crate) fn accepted(log: &mut [u8], at: usize, value: u32, machine: Machine)
+    requires { ⌜ at + logs.entryLength ≤ length (now log) ⌝ }
+    ensures { λ r. ⌜ now (log .exit) ≡ wrote (now (log .entry)) at (logs.entry (bus.accepted value (machineOf machine))) ⌝ }
+{
+    put(
+        log,
+        at,
+        refusal::NOT_REFUSED,
+        false,
+        0,
+        machine.levels(),
+        value,
+    );
+}
+
+// A port's own answer, with its number.
+pub(crate) fn of_port(log: &mut [u8], at: usize, answer: apbuart::Answer, machine: Machine)
+    requires { ⌜ at + logs.entryLength ≤ length (now log) ⌝ }
+    ensures { λ r. ⌜ now (log .exit) ≡ wrote (now (log .entry)) at (logs.entry (routes.ofPort (uart.answerOf answer) (machineOf machine))) ⌝ }
+{
+    put(
+        log,
+        at,
         answer.refusal,
         answer.emitted,
         answer.byte,
-        answer.levels,
+        machine.levels(),
         answer.value,
     );
+}
+
+// A span of time that the timer unit passed.
+pub(crate) fn of_span(log: &mut [u8], at: usize, elapsed: Elapsed, machine: Machine)
+    requires { ⌜ at + logs.entryLength ≤ length (now log) ⌝ }
+    ensures { λ r. ⌜ now (log .exit) ≡ wrote (now (log .entry)) at (logs.entry (routes.ofSpan elapsed (machineOf machine))) ⌝ }
+{
+    let first = first_long(refusal::NOT_REFUSED, false, 0, machine.levels(), 0);
+    let pulses = elapsed.pulses;
     let longs = [
         first,
-        answer.cycles,
+        elapsed.cycles,
         pulses[0],
         pulses[1],
         pulses[2],
         pulses[3],
     ];
     put_longs(log, at, longs);
+}
+
+// The record of a call in which no time passed.
+fn put(log: &mut [u8], at: usize, refusal: u8, emitted: bool, byte: u8, levels: u8, value: u32)
+    requires { ⌜ at + logs.entryLength ≤ length (now log) ⌝ }
+    ensures { λ r. ⌜ now (log .exit) ≡ wrote (now (log .entry)) at (private.atOnce refusal emitted byte levels value) ⌝ }
+{
+    let first = first_long(refusal, emitted, byte, levels, value);
+    put_longs(log, at, [first, 0, 0, 0, 0, 0]);
 }
 
 // The refusal number, the emitted byte, the line levels and the value read, as one number.

@@ -1,21 +1,24 @@
 // A run of script records on a machine, and what the program does with a piece of its input.
 ghost use mathlib.Core.Path.{_≡_};
-ghost use mathlib.Core.Bool.{cond};
+ghost use mathlib.Core.Bool.{cond, true};
 ghost use Prim.Native.Nat.{_+_, _*_, _/_, _%_, _≤_, _<_, min};
 ghost use lib.Dec.{eqb};
 ghost use lib.ListN.{length, take, drop};
-ghost use Rattle.bus.specs.Call.{answer};
+ghost use Rattle.bus.specs.Board.{gr712rc};
+ghost use Rattle.bus.specs.Machine.{wellFormed};
+ghost use Rattle.bus.specs.Route.{Leads};
 ghost use Rattle.bus.specs.View as bus;
 ghost use Rattle.script.specs.Script as scripts;
 ghost use Rattle.script.specs.Log as logs;
 ghost use Rattle.script.specs.Run as runs;
 ghost use Rattle.script.specs.View.{Conforms};
-ghost use Rattle.script.specs.Private.{Played, Stepped};
+ghost use Rattle.script.specs.Private.{Played};
 use crate::entry;
 use crate::record;
 use crate::record::decode;
 use bus::machine::Machine;
 use bus::refusal;
+use bus::route::Route;
 
 // What a run answers.
 pub struct Ran {
@@ -78,28 +81,58 @@ fn run_records(machine: Machine, script: &[u8], log: &mut [u8], count: usize) ->
     }
 }
 
+// Every call on a well-formed machine leaves one, so the test for 9 is once a run. The machine is a local of this loop, and
+// what a record leads to is done here: the one device that changed is then stored where it lies, and nothing else is moved.
+// (`Machine::call` has the same arms.)
 fn play(machine: Machine, script: &[u8], log: &mut [u8], count: usize) -> Machine
     requires { ⌜ scripts.recordLength * count < length (now script) + scripts.recordLength ⌝ }
     requires { ⌜ logs.entryLength * count ≤ length (now log) ⌝ }
+    requires { ⌜ wellFormed (bus.machineOf machine) ≡ true ⌝ }
     ensures { λ r. ⌜ Played (runs.ran count (now (script .entry)) (now (log .entry)) (bus.machineOf machine)) r (now (log .exit)) ⌝ }
 {
     let mut machine = machine;
     let mut i = 0;
     while i < count {
-        machine = step(machine, record_at(script, i), log, entry::LENGTH * i);
+        let at = entry::LENGTH * i;
+        let route = route_at(script, i);
         i += 1;
+        match route {
+            Route::Refused(number) => entry::refused(log, at, number, machine),
+            Route::Port { n, call } => {
+                let answer = machine.ports[n].call(call);
+                let port = answer.port;
+                machine.ports[n] = port;
+                entry::of_port(log, at, answer, machine);
+            }
+            Route::ReadUnit { offset } => {
+                entry::accepted(log, at, machine.unit.read(offset), machine);
+            }
+            Route::WriteUnit { offset, value } => {
+                let unit = machine.unit.write(offset, value);
+                machine.unit = unit;
+                entry::accepted(log, at, 0, machine);
+            }
+            Route::Pass(span) => {
+                let elapsed = machine.unit.pass(span);
+                let unit = elapsed.unit;
+                machine.unit = unit;
+                entry::of_span(log, at, elapsed, machine);
+            }
+            Route::Reset => {
+                machine = Machine::reset_state();
+                entry::accepted(log, at, 0, machine);
+            }
+        }
     }
     machine
 }
 
-// Does one record, and logs it from `at` on.
-fn step(machine: Machine, bytes: &[u8], log: &mut [u8], at: usize) -> Machine
-    requires { ⌜ at + logs.entryLength ≤ length (now log) ⌝ }
-    ensures { λ r. ⌜ Stepped (answer (scripts.callIn (now (bytes .entry))) (bus.machineOf machine)) (now (log .entry)) at r (now (log .exit)) ⌝ }
+// Where the record at a place leads.
+fn route_at(script: &[u8], i: usize) -> Route
+    requires { ⌜ scripts.recordLength * i ≤ length (now script) ⌝ }
+    ensures { λ r. ⌜ Leads gr712rc (scripts.callIn (take scripts.recordLength (drop (scripts.recordLength * i) (now (script .entry))))) r ⌝ }
 {
-    let answer = machine.call(decode(bytes));
-    entry::put(log, at, answer);
-    answer.machine
+    Route::of(Machine::BOARD, decode(record_at(script, i)))
 }
 
 // The record at a place; the last may be cut short.

@@ -22,13 +22,18 @@ use Rattle.script.specs.View.{Conforms}
 use Rattle.script.specs.Private.{Played}
 use Rattle.script.specs.declared.run.Ran.{Ran}
 
+-- A machine that passed the test for 9.
+pub tested-well :
+    (m : Machine) (b : Bool) → b ≡ bus.wellFormed (machineOf m) → not b ≡ false → bus.wellFormed (machineOf m) ≡ true
+tested-well m b e t = sym e ∙ not-false b t
+
 -- By the test for 9: records that are done, and a run that is refused.
 module _ (m : Machine) (b : Bool) (e : b ≡ bus.wellFormed (machineOf m)) (script log bytes : List ℕ) (n : ℕ) (r : Ran) where
   pub records-done :
       not b ≡ false → r .refusal ≡ notRefused → r .done ≡ n →
       Played (run.ran n script log (machineOf m)) (r .machine) bytes → Conforms m (run.runFirst n script log) r bytes
   records-done t number done played =
-      let w : bus.wellFormed (machineOf m) ≡ true = sym e ∙ not-false b t in
+      let w : bus.wellFormed (machineOf m) ≡ true = tested-well m b e t in
       record {
         number = rw w number;
         done = rw w done;
