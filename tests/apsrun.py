@@ -2,6 +2,7 @@
 import collections
 import os
 import random
+import resource
 import signal
 import struct
 import subprocess
@@ -231,8 +232,8 @@ class Walk:
 CASES = []
 
 # What must come of a run that fails: a message that names the stream, and on standard output a beginning of the log, of
-# so many bytes at the most; where `whole` is set, it ends with a whole record.
-Failure = collections.namedtuple("Failure", "stream log most whole")
+# so many bytes at the least and at the most; where `whole` is set, it ends with a whole record.
+Failure = collections.namedtuple("Failure", "stream log least most whole")
 
 
 def case(what, data, want, **how):
@@ -282,15 +283,26 @@ for count in (0, 1, 255, 256, 257):
             what = f"{count} records and a tail of {length} bytes ({tail.hex(' ')})"
             case(what, script(*records, tail), log(*entries, entry(10, levels=levels)))
 
-# 3. Scripts of many pieces: the shorter ends in a tail, the longest at the end of a piece.
+# 3. Scripts of many pieces.
 TAIL = RESET[:9]
-short, long, even = Walk(600), Walk(5000), Walk(6144)
-last_levels = short.entries[-1][3]
-SHORT = script(*short.records, TAIL), log(*short.entries, entry(10, levels=last_levels))
+
+
+def with_tail(walk, count):
+    tail = entry(10, levels=walk.entries[count - 1][3])
+    return script(*walk.records[:count], TAIL), log(*walk.entries[:count], tail)
+
+
+short, long, longest = Walk(600), Walk(5000), Walk(8193)
+SHORT = with_tail(short, 600)
 LONG = script(*long.records), log(*long.entries)
+LONGEST = script(*longest.records), log(*longest.entries)
 case("600 records and a tail", *SHORT)
 case("5000 records", *LONG)
-case("6144 records, which are 24 pieces", script(*even.records), log(*even.entries))
+case("8193 records and a tail", *with_tail(longest, 8193))
+# The program gathers the logs of 16 pieces, 4096 records: scripts that end around the ends of what it writes at once.
+for count in (3840, 3841, 4095, 4096, 4097, 6144, 8191, 8192):
+    case(f"{count} records", script(*longest.records[:count]), log(*longest.entries[:count]))
+    case(f"{count} records and a tail", *with_tail(longest, count))
 
 # Each byte that must be 0, each kind, each size and each port number, in a machine with two lines raised and port 0 quiet.
 GOOD = read(PORTS[0] + CONTROL), write(PORTS[0] + CONTROL, TI), offer(4, 0), advance(1), skip(1), RESET
@@ -333,21 +345,28 @@ FAULTS = [
 for faults in FAULTS:
     for name, (data, whole) in {"600 records and a tail": SHORT, "5000 records": LONG}.items():
         faulty(name, data, whole, faults)
+for faults in ({"WRITE_MOST": 100000}, {"WRITE_MOST": 48 * 4096 - 1}, {"WRITE_EINTR": 2}):  # large writes
+    faulty("8193 records", *LONGEST, faults)
 for faults in ({"READ_MOST": 1, "READ_EINTR": 2}, {"WRITE_MOST": 1, "WRITE_EINTR": 2}, {"WRITE_MOST": 10}):
     faulty("a header of version 2", b"APS\x00\x02", b"refused 12\n", faults)
     faulty("a script of 4 bytes", b"APS\x00", b"refused 11\n", faults)
 
 
-# A read that fails: only records that were read whole are logged, and no tail is made up.
+# A read that fails: the pieces before are logged, no record is that was not read whole, and no tail is made up.
 def read_fails(name, data, whole, n, most=None):
-    brought = (n - 1) * (most or PIECE)
+    size = most or PIECE
+    pieces = (n - 1 - -(-5 // size)) // -(-PIECE // size)  # by reads of the header and of whole pieces
+    least = 5 + 48 * 256 * pieces if pieces >= 0 else 0
+    brought = (n - 1) * size
     known = 5 + 48 * ((brought - 5) // 16) if brought >= 5 else 0
     faults = {"READ_EIO": n} | ({"READ_MOST": most} if most else {})
-    faulty(name, data, Failure(b"standard input", whole, known, True), faults)
+    faulty(name, data, Failure(b"standard input", whole, least, known, True), faults)
 
 
-for n in (1, 2, 3, 10):
+for n in (1, 2, 3, 10, 17, 18, 19, 21):  # the 18th after 16 pieces, the 21st in the last
     read_fails("5000 records", *LONG, n)
+for n in (33, 34):
+    read_fails("8193 records", *LONGEST, n)
 for n, most in ((2, 1), (5, 1), (6, 1), (5 + 16 + 1, 1), (5 + 16 + 9, 1), (3, 3), (100, 3), (4, 4095), (300, 16), (300, 100)):
     read_fails("5000 records", *LONG, n, most)
 for n in range(5 + 2 * 16 + 1, 5 + 2 * 16 + len(TAIL) + 2):  # from before the tail's first byte to after its last
@@ -361,21 +380,26 @@ for n in range(1, 6):
 def write_fails(name, data, whole, n, most=None):
     faults = {"WRITE_ENOSPC": n} | ({"WRITE_MOST": most} if most else {})
     put = (n - 1) * most if most else 0 if n == 1 else len(whole) - 1
-    faulty(name, data, Failure(b"standard output", whole, put, False), faults)
+    faulty(name, data, Failure(b"standard output", whole, min(put, 5), put, False), faults)
 
 
-for n, most in ((1, None), (2, None), (3, None), (10, None), (2, 1), (6, 1), (7, 1), (54, 1), (2, 3), (1000, 48), (200, 1000)):
+for n, most in ((1, None), (2, None), (3, None), (2, 1), (6, 1), (7, 1), (54, 1), (2, 3), (1000, 48), (200, 1000), (3, 100000)):
     write_fails("5000 records", *LONG, n, most)
+write_fails("8193 records", *LONGEST, 4)
+faulty("5000 records", LONG[0], Failure(b"standard output", LONG[1], 5, 5, True), {"READ_EIO": 10, "WRITE_ENOSPC": 2})
 write_fails("a header alone", script(), log(), 1)
 write_fails("a header of version 2", b"APS\x00\x02", b"refused 12\n", 1)
 write_fails("a header of version 2", b"APS\x00\x02", b"refused 12\n", 11, 1)
 
 # 6. Reads and writes that the system refuses.
-case("a directory as standard input", b"", Failure(b"standard input", b"", 0, True), stdin=FOLDER)
-FULL = Failure(b"standard output", b"", 0, False)
+case("a directory as standard input", b"", Failure(b"standard input", b"", 0, 0, True), stdin=FOLDER)
+FULL = Failure(b"standard output", b"", 0, 0, False)
 case("a header with standard output /dev/full", script(), FULL, stdout="/dev/full")
 case("a header of version 2 with standard output /dev/full", b"APS\x00\x02", FULL, stdout="/dev/full")
 case("5000 records with standard output /dev/full", LONG[0], FULL, stdout="/dev/full")
+for room in (100000, 200000):  # the last write that fits is cut short, in the first large one and in the second
+    want = Failure(b"standard output", LONGEST[1], room, room, False)
+    case(f"8193 records into a file of {room} bytes at the most", LONGEST[0], want, room=room)
 
 # 7. 01's bench examples.
 case(
@@ -522,9 +546,9 @@ def feed(pipe, data, chunk):
         os.close(pipe)
 
 
-def run(data, chunk=None, stdin=None, stdout=None, faults=None):
-    """Runs the program on the script: from a file, or through a pipe by `chunk` bytes, or on what `stdin` names instead. Its
-    status is None where it did not end."""
+def run(data, chunk=None, stdin=None, stdout=None, faults=None, room=None):
+    """Runs the program on the script: from a file, or through a pipe by `chunk` bytes, or on what `stdin` names instead, with
+    `room` for so many bytes of its log. Its status is None where it did not end."""
     with open(place("script"), "wb") as file:
         file.write(data)
     open(place("out"), "wb").close()
@@ -533,12 +557,15 @@ def run(data, chunk=None, stdin=None, stdout=None, faults=None):
     if faults:
         environment |= {name: str(number) for name, number in faults.items()}
         environment |= {"LD_PRELOAD": place("faults.so"), "FAULTS_MADE": place("made")}
+    limits = {}
+    if room:  # signals are left as they are, so that a write behind the limit fails and does not end the program
+        limits = {"restore_signals": False, "preexec_fn": lambda: resource.setrlimit(resource.RLIMIT_FSIZE, (room, room))}
     if chunk:
         source, pipe = os.pipe()
     else:
         source = os.open(stdin or place("script"), os.O_RDONLY)
     with open(stdout or place("out"), "wb") as out, open(place("err"), "wb") as err:
-        process = subprocess.Popen([PROGRAM], stdin=source, stdout=out, stderr=err, env=environment)
+        process = subprocess.Popen([PROGRAM], stdin=source, stdout=out, stderr=err, env=environment, **limits)
     os.close(source)
     if chunk:
         threading.Thread(target=feed, args=(pipe, data, chunk), daemon=True).start()
@@ -572,8 +599,8 @@ def complaint(want, result, faults):
         return f"expected a message that names {want.stream.decode()}, got {result.err!r}"
     if not want.log.startswith(result.out):
         return f"expected a beginning of {difference(want.log, result.out)}"
-    if len(result.out) > want.most:
-        return f"expected at most {want.most} bytes, got {len(result.out)}"
+    if not want.least <= len(result.out) <= want.most:
+        return f"expected {want.least} to {want.most} bytes, got {len(result.out)}"
     if want.whole and result.out and len(result.out) % 48 != 5:
         return f"expected whole records, got {len(result.out)} bytes"
     return None

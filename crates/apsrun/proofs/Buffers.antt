@@ -1,12 +1,13 @@
 -- Parts of the buffers. Assumes nothing.
-use Prim.Native.Nat.{ℕ, _*_, _≤_}
-use mathlib.Core.Path.{_≡_, sym}
+use Prim.Native.Nat.{ℕ, _+_, _-_, _*_, _≤_}
+use mathlib.Core.Path.{_≡_, sym, _∙_}
 use mathlib.Core.List.{List}
 use native.Mathlib.Omega.{arith}
 use lib.ListN.{length, take}
 use lib.Seq.{length-take-le}
 use mir.Syntax.{w64}
 use mir.Val.{Fits}
+use borrow.Rule.Slice.PartMut.{midOf, putMid, mid-len, same-len-mid}
 use Rattle.bus.specs.declared.machine.Machine.{Machine}
 use Rattle.script.specs.Log.{entryLength}
 use Rattle.script.specs.Run.{piece}
@@ -18,15 +19,39 @@ use Rattle.script.specs.declared.run.Ran.{Ran}
 pub counted : (n : ℕ) (l : List ℕ) → n ≤ length l → n ≡ length (take n l)
 counted n l h = sym (length-take-le n l h)
 
--- What a piece logs ends in its log.
-module _ (m : Machine) (input log bytes : List ℕ) (r : Ran) (c : Conforms m (piece input log) r bytes) where
-  pub end-fits : length log ≡ logLength → Fits w64 (entryLength * r .done)
-  end-fits e = record { fits = omega (arith, piece-room input log c) }
+-- The length of the log buffer: that of GATHERED pieces' logs.
+abbrev pub gathered : ℕ
+gathered = 16 * logLength
 
-  pub end-within : (l : List ℕ) → length log ≡ logLength → length l ≡ logLength → entryLength * r .done ≤ length l
-  end-within l e f = omega (arith, piece-room input log c)
+-- The log with the part that a piece was lent put back.
+pub back-length :
+    (end n : ℕ) (log bytes : List ℕ) → length bytes ≡ length (midOf end n log) → length log ≡ gathered →
+    length (putMid end n log bytes) ≡ gathered
+back-length end n log bytes e f = same-len-mid end n log bytes e ∙ f
 
-  pub end-counted :
-      (l : List ℕ) → length log ≡ logLength → length l ≡ logLength →
-      entryLength * r .done ≡ length (take (entryLength * r .done) l)
-  end-counted l e f = counted (entryLength * r .done) l (end-within l e f)
+-- The loop keeps room in it for a further piece's log.
+pub end-before : (end : ℕ) (log : List ℕ) → end + logLength ≤ gathered → length log ≡ gathered → end ≤ length log
+end-before end log h e = omega arith
+
+pub same-within :
+    {end end' : ℕ} {log log' : List ℕ} → log ≡ log' → end ≡ end' → end' ≤ length log' → end ≤ length log
+same-within e f h = rw (e, f) h
+
+-- What a piece logs ends in the part of the log that it is lent.
+module _
+    (m : Machine) (input : List ℕ) (end : ℕ) (log bytes : List ℕ) (r : Ran)
+    (c : Conforms m (piece input (midOf end (gathered - end) log)) r bytes) where
+  pub end-within : end + logLength ≤ gathered → length log ≡ gathered → end + entryLength * r .done ≤ gathered
+  end-within h e =
+      omega (arith, piece-room input (midOf end (gathered - end) log) c, mid-len end gathered log (omega (arith, e)))
+
+  pub logged-fits : end + logLength ≤ gathered → length log ≡ gathered → Fits w64 (entryLength * r .done)
+  logged-fits h e = record { fits = omega (arith, end-within h e) }
+
+  pub end-fits : end + logLength ≤ gathered → length log ≡ gathered → Fits w64 (end + entryLength * r .done)
+  end-fits h e = record { fits = omega (arith, end-within h e) }
+
+  pub end-in :
+      end + logLength ≤ gathered → length log ≡ gathered → length bytes ≡ length (midOf end (gathered - end) log) →
+      end + entryLength * r .done ≤ length (putMid end (gathered - end) log bytes)
+  end-in h e f = omega (arith, end-within h e, back-length end (gathered - end) log bytes f e)

@@ -1,6 +1,6 @@
 // The program: it runs the script that it reads from standard input on a machine at reset, and writes the log to standard
-// output. It only reads, calls the library `script`, and writes. Where a read or a write fails, it says so on standard error
-// and ends: the log then lacks what was not yet written, and no record is made up for what was not read.
+// output. It only reads, calls the library `script`, and writes. Where a read fails, it says so on standard error, writes the
+// log of the pieces before, and ends: no record is made up for what was not read. Where a write fails, it says so and ends.
 ghost use Prim.Native.Nat.{_≤_};
 ghost use lib.ListN.{length};
 use bus::machine::Machine;
@@ -19,6 +19,11 @@ const PIECE: usize = 4096;
 
 // Room for a log record for each record of a piece.
 const LOG_PIECE: usize = entry::LENGTH * (PIECE / record::LENGTH);
+
+// So many pieces' logs are gathered and written out at once: many small writes take the system longer.
+const GATHERED: usize = 16;
+
+const LOG: usize = GATHERED * LOG_PIECE;
 
 // What came of filling a buffer from standard input.
 struct Input {
@@ -47,11 +52,13 @@ fn main() {
     }
 }
 
-// Runs what follows the header. A proved loop has to end, and nothing says that the input does: the loop counts its turns
-// down, from a number that no run uses up. So do the two below.
+// Runs what follows the header. The log is written out once it has no room for a further piece's, and at the end, whether the
+// input ended or a read failed. A proved loop has to end, and nothing says that the input does: the loop counts its turns down,
+// from a number that no run uses up. So do the two below.
 fn run() {
     let mut script = [0; PIECE];
-    let mut log = [0; LOG_PIECE];
+    let mut log = [0; LOG];
+    let mut end = 0;
     let mut machine = Machine::reset_state();
     let mut turns = u64::MAX;
     while 0 < turns {
@@ -59,18 +66,22 @@ fn run() {
         let input = fill(&mut script);
         let count = input.count;
         if input.failed {
-            return;
+            break;
         }
-        let ran = run_piece(machine, &script[..count], &mut log);
+        let ran = run_piece(machine, &script[..count], &mut log[end..]);
         machine = ran.machine;
-        let end = entry::LENGTH * ran.done;
-        if !emit(&log[..end]) {
-            return;
-        }
+        end += entry::LENGTH * ran.done;
         if count < PIECE {
-            return;
+            break;
+        }
+        if LOG - LOG_PIECE < end {
+            if !emit(&log[..end]) {
+                return;
+            }
+            end = 0;
         }
     }
+    emit(&log[..end]);
 }
 
 // Reads until the buffer is full or the input ends. A read may bring fewer bytes than were asked for, and one that a signal

@@ -126,8 +126,8 @@ pieces-claim {m} {n} {last} {script} {written} e cuts runs one =
     let uncut = rw (← e) at (run-with-room-slow (wellFormed (machineOf m)) n last script written (ap wellFormed (sym e)) one) in
     (parts .0 ∙ sym (uncut .0), parts .1 ∙ sym (uncut .1))
 
--- Every input can be read in pieces of 4,096 bytes, these are a cut between records, and a log buffer of the program's
--- length has room for what such a piece logs.
+-- Every input can be read in pieces of 4,096 bytes, these are a cut between records, and a log of `logLength` bytes or more,
+-- as the program lends it to each piece, has room for what the piece logs.
 pub pieces-exist : (input : List ℕ) → (inputs : List (List ℕ)) × InPieces input inputs
 pieces-exist input = laws.in-pieces (suc (length input)) input (omega arith)
 
@@ -135,7 +135,7 @@ pub input-cut-claim : {input : List ℕ} {inputs : List (List ℕ)} → InPieces
 input-cut-claim (last h) = uncut
 input-cut-claim (full {piece} {rest} e reads) = cut {piece = piece} {rest = rest} (rw e refl) (input-cut-claim reads)
 
-pub room-claim : (input log : List ℕ) → length input ≤ pieceLength → length log ≡ logLength → withTail input ≤ fitting log
+pub room-claim : (input log : List ℕ) → length input ≤ pieceLength → logLength ≤ length log → withTail input ≤ fitting log
 room-claim = laws.piece-fits
 
 -- What the library gives the program to write is the output of its definition, whatever the input is. Either a script's first

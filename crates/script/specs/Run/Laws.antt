@@ -97,8 +97,8 @@ tail-starts n =
       | no z ↦ rw (ne-eqb (n % scripts.recordLength) 0 z) (omega (arith, div-add-mod' n scripts.recordLength))
     ]
 
-pub piece-fits : (piece log : List ℕ) → length piece ≤ pieceLength → length log ≡ logLength → withTail piece ≤ fitting log
-piece-fits piece log h e = rw e (omega (arith, tail-starts (length piece)))
+pub piece-fits : (piece log : List ℕ) → length piece ≤ pieceLength → logLength ≤ length log → withTail piece ≤ fitting log
+piece-fits piece log h e = omega (arith, tail-starts (length piece))
 
 -- The log has room for the records that are done.
 pub done-fits :
