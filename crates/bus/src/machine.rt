@@ -229,10 +229,9 @@ impl Machine {
         }
     }
 
-    // What a call leads to. The arms are those of a run's loop (crate `script`), which has its machine in a local and stores
-    // there what changed.
+    // Does what a call leads to. The loop of a run (crate `script`) has the same arms, on a machine of its own.
     fn carry_out(mut self, route: Route) -> Answer
-        requires { ⌜ routes.isThere 6 route ≡ true ⌝ }
+        requires { ⌜ routes.isThere (gr712rc .ports) route ≡ true ⌝ }
         ensures { λ r. ⌜ Carried self route r ⌝ }
     {
         match route {

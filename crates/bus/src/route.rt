@@ -14,11 +14,16 @@ use devices::apbuart;
 use devices::gptimer::Span;
 
 pub enum Route {
+    // The call is refused with this number.
     Refused(u8),
+    // It is port n's own call,
     Port { n: usize, call: apbuart::Call },
+    // or an access of the timer unit.
     ReadUnit { offset: u32 },
     WriteUnit { offset: u32, value: u32 },
+    // Time passes.
     Pass(Span),
+    // Every device is reset.
     Reset,
 }
 
@@ -41,6 +46,8 @@ impl Route {
         }
     }
 
+    // This and `write` find their window each for itself: the compiler puts the search of a table where it is called from here,
+    // and would not if a function of both did it.
     fn read(board: Board, address: u32, size: u8) -> Self
         ensures { λ r. ⌜ r ≡ private.accessed private.reads address size (windowAt address (board .windows)) ⌝ }
     {
@@ -113,8 +120,7 @@ impl Route {
     }
 }
 
-// The refusal number of an access: 1, then what the others are at this size. Here the size is a constant at each call, so
-// that no remainder is a division.
+// The refusal number of an access: 1, or another by its size. The size is then a constant, so that no remainder is a division.
 fn access_refusal(address: u32, size: u8, found: Found) -> u8
     ensures { λ r. ⌜ r ≡ private.accessNumber address size found ⌝ }
 {

@@ -108,11 +108,12 @@ module _ (m : Machine) (way : Route) where
   reset-came next e f = accepted-came _ next (rw e (ap (bus.accepted 0) (sym f))) refl refl
 
 -- A port that a route names is there, and its place in the code's array is a 64-bit number.
-pub leads-there : (k : machine.Call) (way : Route) → Leads gr712rc k way → isThere 6 way ≡ true
+pub leads-there : (k : machine.Call) (way : Route) → Leads gr712rc k way → isThere (gr712rc .ports) way ≡ true
 unfolding gr712rc
 leads-there k way h = h .there refl
 
-pub named-there : (n : ℕ) (c : Call) (way : Route) → isThere 6 way ≡ true → way ≡ Port n c → n < 6
+pub named-there : (n : ℕ) (c : Call) (way : Route) → isThere (gr712rc .ports) way ≡ true → way ≡ Port n c → n < 6
+unfolding gr712rc
 named-there n c way t e = ltb-true n 6 (rw e at t)
 
 pub port-fits : (n : ℕ) → n < 6 → Fits w64 (n * 16)
