@@ -13,33 +13,31 @@ use Rattle.devices.specs.Gptimer.Span.{pass}
 use Rattle.devices.specs.declared.gptimer.Elapsed.{Elapsed}
 use Rattle.bus.specs.Board.{allThere}
 use Rattle.bus.specs.Machine.{Machine, Answer, wellFormed, resetState, portAt, withPort, withUnit}
-use Rattle.bus.specs.Machine.{answered, noPulses, refused, accepted}
+use Rattle.bus.specs.Machine.{answered, noPulses, refused, accepted, ofSpan}
 use Rattle.bus.specs.Call.{answer}
 use Rattle.bus.specs.declared.board.Board.{Board}
 use Rattle.bus.specs.declared.machine.Call.{Call}
 use Rattle.bus.specs.declared.route.Route.{Route}
 use Rattle.bus.specs.declared.route.Route.the-variants.{Refused, Port, ReadUnit, WriteUnit, Pass, Reset}
 
--- The answer that leaves this machine and has what a port answered, the port's own number too, or a span of time.
-abbrev pub ofPort : uart.Answer → Machine → Answer
-ofPort a after = answered (a .refusal) (a .emitted) (a .byte) (a .value) 0 noPulses after
+-- The answer with what a port answered, the port's own number too, and the answer of a span of time, that leave this machine.
+abbrev pub portAnswer : uart.Answer → Machine → Answer
+portAnswer a after = answered (a .refusal) (a .emitted) (a .byte) (a .value) 0 noPulses after
 
-abbrev pub ofSpan : Elapsed → Machine → Answer
-ofSpan e after = answered notRefused false 0 0 (e .cycles) (e .pulses) after
+abbrev pub spanAnswer : Elapsed → Machine → Answer
+spanAnswer e after = answered notRefused false 0 0 (e .cycles) (e .pulses) after
 
--- The device's own call is made, and the device after it stored.
+-- Port n answers its own call, and is stored.
 abbrev pub portCalled : ℕ → uart.Answer → Machine → Answer
-portCalled n a m = ofPort a (withPort n (a .port) m)
+portCalled n a m = portAnswer a (withPort n (a .port) m)
 
-abbrev pub unitPassed : Elapsed → Machine → Answer
-unitPassed e m = ofSpan e (withUnit (e .unit) m)
-
+-- What comes of a route.
 unfoldable pub carriedOut : Route → Machine → Answer
 carriedOut (Refused number) m = refused number m
 carriedOut (Port n c) m = portCalled n (call c (portAt n m)) m
 carriedOut (ReadUnit offset) m = accepted (gpt.read offset (m .unit)) m
 carriedOut (WriteUnit offset value) m = accepted 0 (withUnit (gpt.write offset value (m .unit)) m)
-carriedOut (Pass span) m = unitPassed (pass span (m .unit)) m
+carriedOut (Pass span) m = ofSpan (pass span (m .unit)) m
 carriedOut Reset m = accepted 0 (resetState (m .board))
 
 -- A port that a route names is one of so many.

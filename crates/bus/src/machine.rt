@@ -94,7 +94,7 @@ impl Answer {
 
     // A port's own answer, with its number.
     fn of_port(answer: apbuart::Answer, after: Machine) -> Self
-        ensures { λ r. ⌜ Makes (routes.ofPort (uart.answerOf answer) (machineOf after)) after r ⌝ }
+        ensures { λ r. ⌜ Makes (routes.portAnswer (uart.answerOf answer) (machineOf after)) after r ⌝ }
     {
         Answer {
             refusal: answer.refusal,
@@ -110,7 +110,7 @@ impl Answer {
 
     // A span of time that the timer unit passed.
     fn of_span(elapsed: Elapsed, after: Machine) -> Self
-        ensures { λ r. ⌜ Makes (routes.ofSpan elapsed (machineOf after)) after r ⌝ }
+        ensures { λ r. ⌜ Makes (routes.spanAnswer elapsed (machineOf after)) after r ⌝ }
     {
         let pulses = elapsed.pulses;
         Answer {

@@ -50,7 +50,7 @@ pub(crate) fn accepted(log: &mut [u8], at: usize, value: u32, machine: Machine)
 // A port's own answer, with its number.
 pub(crate) fn of_port(log: &mut [u8], at: usize, answer: apbuart::Answer, machine: Machine)
     requires { ⌜ at + logs.entryLength ≤ length (now log) ⌝ }
-    ensures { λ r. ⌜ now (log .exit) ≡ wrote (now (log .entry)) at (logs.entry (routes.ofPort (uart.answerOf answer) (machineOf machine))) ⌝ }
+    ensures { λ r. ⌜ now (log .exit) ≡ wrote (now (log .entry)) at (logs.entry (routes.portAnswer (uart.answerOf answer) (machineOf machine))) ⌝ }
 {
     put(
         log,
@@ -66,7 +66,7 @@ pub(crate) fn of_port(log: &mut [u8], at: usize, answer: apbuart::Answer, machin
 // A span of time that the timer unit passed.
 pub(crate) fn of_span(log: &mut [u8], at: usize, elapsed: Elapsed, machine: Machine)
     requires { ⌜ at + logs.entryLength ≤ length (now log) ⌝ }
-    ensures { λ r. ⌜ now (log .exit) ≡ wrote (now (log .entry)) at (logs.entry (routes.ofSpan elapsed (machineOf machine))) ⌝ }
+    ensures { λ r. ⌜ now (log .exit) ≡ wrote (now (log .entry)) at (logs.entry (routes.spanAnswer elapsed (machineOf machine))) ⌝ }
 {
     let first = first_long(refusal::NOT_REFUSED, false, 0, machine.levels(), 0);
     let pulses = elapsed.pulses;

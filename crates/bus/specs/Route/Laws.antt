@@ -25,7 +25,7 @@ use Rattle.devices.specs.declared.gptimer.Elapsed.{Elapsed}
 use Rattle.devices.specs.declared.gptimer.Span.{Span}
 use Rattle.bus.specs.Board.{gr712rc}
 use Rattle.bus.specs.Machine as bus
-use Rattle.bus.specs.Route.{ofPort, ofSpan, carriedOut, isThere, Leads}
+use Rattle.bus.specs.Route.{portAnswer, spanAnswer, carriedOut, isThere, Leads}
 use Rattle.bus.specs.View.{machineOf}
 use Rattle.bus.specs.declared.machine.Machine.{Machine}
 use Rattle.bus.specs.declared.machine.Call as machine
@@ -64,7 +64,7 @@ module _ (m : Machine) (way : Route) where
   pub port-came :
       (n : ℕ) (z : Apbuart) (x : apbuart.Answer) (c : Call) → way ≡ Port n c → n < 6 → length (m .ports) ≡ 6 →
       port.Conforms (getD (m .ports) n z) (call c (portOf (getD (m .ports) n z))) x →
-      Came m way (ofPort (port.answerOf x) (machineOf (withPort n (x .port) m))) (withPort n (x .port) m)
+      Came m way (portAnswer (port.answerOf x) (machineOf (withPort n (x .port) m))) (withPort n (x .port) m)
   unfolding carriedOut
   port-came n z x c e l whole conforms =
       let own : call c (bus.portAt n (machineOf m)) ≡ port.answerOf x =
@@ -72,7 +72,7 @@ module _ (m : Machine) (way : Route) where
       let stored : machineOf (withPort n (x .port) m) ≡ bus.withPort n (portOf (x .port)) (machineOf m) =
       rw (ports-set (m .ports) n (x .port)) refl in
       record {
-        is = rw (e, own) (ap (ofPort (port.answerOf x)) (sym stored));
+        is = rw (e, own) (ap (portAnswer (port.answerOf x)) (sym stored));
         left = refl;
         same = λ refused. rw (conforms .same refused, set-getD (m .ports) n z) refl;
       }
@@ -97,7 +97,7 @@ module _ (m : Machine) (way : Route) where
 
   pub pass-came :
       (span : Span) (x : Elapsed) → way ≡ Pass span → x ≡ pass span (m .unit) →
-      Came m way (ofSpan x (machineOf (withUnit (x .unit) m))) (withUnit (x .unit) m)
+      Came m way (spanAnswer x (machineOf (withUnit (x .unit) m))) (withUnit (x .unit) m)
   unfolding carriedOut
   pass-came span x e f = accepted-came _ (withUnit (x .unit) m) (rw (e, ← f) refl) refl refl
 

@@ -11,7 +11,7 @@ use Rattle.devices.specs.Refusal.{notRefused}
 use Rattle.devices.specs.declared.gptimer.Elapsed.{Elapsed}
 use Rattle.bus.specs.Machine as bus
 use Rattle.bus.specs.Machine.{Machine}
-use Rattle.bus.specs.Route.{ofSpan}
+use Rattle.bus.specs.Route.{spanAnswer}
 use Rattle.script.specs.Number.{encoded}
 use Rattle.script.specs.Number.Laws.{encoded-join, length-encoded}
 use Rattle.script.specs.Buffer.{wrote}
@@ -77,7 +77,7 @@ module _ (l l′ : List ℕ) (at levels : ℕ) (m : Machine) (e : levels ≡ bus
       wrote l at
       (longs
       (first ∷ x .cycles ∷ getD (x .pulses) 0 0 ∷ getD (x .pulses) 1 0 ∷ getD (x .pulses) 2 0 ∷ getD (x .pulses) 3 0 ∷ [])) →
-      l′ ≡ wrote l at (entry (ofSpan x m))
+      l′ ≡ wrote l at (entry (spanAnswer x m))
   unfolding entry
   span-entry first x f g = g ∙ ap (wrote l at) (rw (f, e) (simp (append-assoc, append-nil)))
 
