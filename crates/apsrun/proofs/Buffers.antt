@@ -20,17 +20,17 @@ pub counted : (n : ℕ) (l : List ℕ) → n ≤ length l → n ≡ length (take
 counted n l h = sym (length-take-le n l h)
 
 -- The length of the log buffer: that of GATHERED pieces' logs.
-abbrev pub gathered : ℕ
-gathered = 16 * logLength
+abbrev pub bufferLength : ℕ
+bufferLength = 16 * logLength
 
 -- The log with the part that a piece was lent put back.
 pub back-length :
-    (end n : ℕ) (log bytes : List ℕ) → length bytes ≡ length (midOf end n log) → length log ≡ gathered →
-    length (putMid end n log bytes) ≡ gathered
+    (end n : ℕ) (log bytes : List ℕ) → length bytes ≡ length (midOf end n log) → length log ≡ bufferLength →
+    length (putMid end n log bytes) ≡ bufferLength
 back-length end n log bytes e f = same-len-mid end n log bytes e ∙ f
 
 -- The loop keeps room in it for a further piece's log.
-pub end-before : (end : ℕ) (log : List ℕ) → end + logLength ≤ gathered → length log ≡ gathered → end ≤ length log
+pub end-before : (end : ℕ) (log : List ℕ) → end + logLength ≤ bufferLength → length log ≡ bufferLength → end ≤ length log
 end-before end log h e = omega arith
 
 pub same-within :
@@ -40,18 +40,18 @@ same-within e f h = rw (e, f) h
 -- What a piece logs ends in the part of the log that it is lent.
 module _
     (m : Machine) (input : List ℕ) (end : ℕ) (log bytes : List ℕ) (r : Ran)
-    (c : Conforms m (piece input (midOf end (gathered - end) log)) r bytes) where
-  pub end-within : end + logLength ≤ gathered → length log ≡ gathered → end + entryLength * r .done ≤ gathered
+    (c : Conforms m (piece input (midOf end (bufferLength - end) log)) r bytes) where
+  pub end-within : end + logLength ≤ bufferLength → length log ≡ bufferLength → end + entryLength * r .done ≤ bufferLength
   end-within h e =
-      omega (arith, piece-room input (midOf end (gathered - end) log) c, mid-len end gathered log (omega (arith, e)))
+      omega (arith, piece-room input (midOf end (bufferLength - end) log) c, mid-len end bufferLength log (omega (arith, e)))
 
-  pub logged-fits : end + logLength ≤ gathered → length log ≡ gathered → Fits w64 (entryLength * r .done)
+  pub logged-fits : end + logLength ≤ bufferLength → length log ≡ bufferLength → Fits w64 (entryLength * r .done)
   logged-fits h e = record { fits = omega (arith, end-within h e) }
 
-  pub end-fits : end + logLength ≤ gathered → length log ≡ gathered → Fits w64 (end + entryLength * r .done)
+  pub end-fits : end + logLength ≤ bufferLength → length log ≡ bufferLength → Fits w64 (end + entryLength * r .done)
   end-fits h e = record { fits = omega (arith, end-within h e) }
 
   pub end-in :
-      end + logLength ≤ gathered → length log ≡ gathered → length bytes ≡ length (midOf end (gathered - end) log) →
-      end + entryLength * r .done ≤ length (putMid end (gathered - end) log bytes)
-  end-in h e f = omega (arith, end-within h e, back-length end (gathered - end) log bytes f e)
+      end + logLength ≤ bufferLength → length log ≡ bufferLength → length bytes ≡ length (midOf end (bufferLength - end) log) →
+      end + entryLength * r .done ≤ length (putMid end (bufferLength - end) log bytes)
+  end-in h e f = omega (arith, end-within h e, back-length end (bufferLength - end) log bytes f e)

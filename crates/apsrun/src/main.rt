@@ -23,7 +23,8 @@ const LOG_PIECE: usize = entry::LENGTH * (PIECE / record::LENGTH);
 // So many pieces' logs are gathered and written out at once: many small writes take the system longer.
 const GATHERED: usize = 16;
 
-const LOG: usize = GATHERED * LOG_PIECE;
+// The log buffer.
+const LOG_BUFFER: usize = GATHERED * LOG_PIECE;
 
 // What came of filling a buffer from standard input.
 struct Input {
@@ -57,7 +58,7 @@ fn main() {
 // from a number that no run uses up. So do the two below.
 fn run() {
     let mut script = [0; PIECE];
-    let mut log = [0; LOG];
+    let mut log = [0; LOG_BUFFER];
     let mut end = 0;
     let mut machine = Machine::reset_state();
     let mut turns = u64::MAX;
@@ -74,7 +75,7 @@ fn run() {
         if count < PIECE {
             break;
         }
-        if LOG - LOG_PIECE < end {
+        if LOG_BUFFER - LOG_PIECE < end {
             if !emit(&log[..end]) {
                 return;
             }

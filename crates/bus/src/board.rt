@@ -30,7 +30,7 @@ pub struct Board {
 }
 
 impl Window {
-    pub const LENGTH: u32 = 0x100;
+    pub(crate) const LENGTH: u32 = 0x100;
 
     // The first address behind the window, which may lie past the last 32-bit one.
     pub(crate) fn end(self) -> u64
@@ -64,7 +64,7 @@ impl Window {
 impl Board {
     pub const WINDOWS: usize = 7;
 
-    pub const GR712RC: Board = Board {
+    pub(crate) const GR712RC: Board = Board {
         ports: 6,
         windows: [
             Window {

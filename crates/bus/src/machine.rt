@@ -5,8 +5,8 @@ ghost use mathlib.Core.Bool.{true};
 ghost use Rattle.bus.specs.Machine as bus;
 ghost use Rattle.bus.specs.Board.{gr712rc};
 ghost use Rattle.bus.specs.Route as routes;
-ghost use Rattle.bus.specs.Private.{Makes, Carried};
-ghost use Rattle.bus.specs.View.{machineOf, Conforms};
+ghost use Rattle.bus.specs.Route.Laws.{Outcome};
+ghost use Rattle.bus.specs.View.{machineOf, answerOf, Conforms};
 ghost use Rattle.bus.specs.declared.machine.Call.the-variants as calls;
 ghost use Rattle.devices.specs.Apbuart.View as uart;
 use crate::board::Board;
@@ -62,7 +62,7 @@ impl Answer {
 
     // A refusal, of the machine as it is.
     fn refused(refusal: u8, machine: Machine) -> Self
-        ensures { λ r. ⌜ Makes (bus.refused refusal (machineOf machine)) machine r ⌝ }
+        ensures { λ r. ⌜ (answerOf r ≡ bus.refused refusal (machineOf machine)) × (r .machine ≡ machine) ⌝ }
     {
         Answer {
             refusal,
@@ -78,7 +78,7 @@ impl Answer {
 
     // An access of the timer unit, with the value that it read or 0, or a reset.
     fn accepted(value: u32, after: Machine) -> Self
-        ensures { λ r. ⌜ Makes (bus.accepted value (machineOf after)) after r ⌝ }
+        ensures { λ r. ⌜ (answerOf r ≡ bus.accepted value (machineOf after)) × (r .machine ≡ after) ⌝ }
     {
         Answer {
             refusal: refusal::NOT_REFUSED,
@@ -94,7 +94,7 @@ impl Answer {
 
     // A port's own answer, with its number.
     fn of_port(answer: apbuart::Answer, after: Machine) -> Self
-        ensures { λ r. ⌜ Makes (routes.portAnswer (uart.answerOf answer) (machineOf after)) after r ⌝ }
+        ensures { λ r. ⌜ (answerOf r ≡ routes.portAnswer (uart.answerOf answer) (machineOf after)) × (r .machine ≡ after) ⌝ }
     {
         Answer {
             refusal: answer.refusal,
@@ -110,7 +110,7 @@ impl Answer {
 
     // A span of time that the timer unit passed.
     fn of_span(elapsed: Elapsed, after: Machine) -> Self
-        ensures { λ r. ⌜ Makes (routes.spanAnswer elapsed (machineOf after)) after r ⌝ }
+        ensures { λ r. ⌜ (answerOf r ≡ routes.spanAnswer elapsed (machineOf after)) × (r .machine ≡ after) ⌝ }
     {
         let pulses = elapsed.pulses;
         Answer {
@@ -231,8 +231,8 @@ impl Machine {
 
     // Does what a call leads to. The loop of a run (crate `script`) has the same arms, on a machine of its own.
     fn carry_out(mut self, route: Route) -> Answer
-        requires { ⌜ routes.isThere (gr712rc .ports) route ≡ true ⌝ }
-        ensures { λ r. ⌜ Carried self route r ⌝ }
+        requires { ⌜ routes.portExists (gr712rc .ports) route ≡ true ⌝ }
+        ensures { λ r. ⌜ Outcome self route (answerOf r) (r .machine) ⌝ }
     {
         match route {
             Route::Refused(number) => Answer::refused(number, self),

@@ -46,10 +46,9 @@ impl Route {
         }
     }
 
-    // This and `write` find their window each for itself: the compiler puts the search of a table where it is called from here,
-    // and would not if a function of both did it.
+    // `read` and `write` each search the table: the compiler inlines the search here, but not in a function that both share.
     fn read(board: Board, address: u32, size: u8) -> Self
-        ensures { λ r. ⌜ r ≡ private.accessed private.reads address size (windowAt address (board .windows)) ⌝ }
+        ensures { λ r. ⌜ r ≡ private.accessRoute private.readRoute address size (windowAt address (board .windows)) ⌝ }
     {
         let found = board.window_at(address);
         let number = access_refusal(address, size, found);
@@ -61,13 +60,13 @@ impl Route {
                 let device = window.device;
                 Self::read_device(device, window.offset(address))
             }
-            // Refused before, so never asked for, here and below.
+            // Refused above, so not reached; likewise below.
             Found::Nowhere => Route::Refused(refusal::NOT_REFUSED),
         }
     }
 
     fn write(board: Board, address: u32, size: u8, value: u32) -> Self
-        ensures { λ r. ⌜ r ≡ private.accessed (private.writes value) address size (windowAt address (board .windows)) ⌝ }
+        ensures { λ r. ⌜ r ≡ private.accessRoute (private.writeRoute value) address size (windowAt address (board .windows)) ⌝ }
     {
         let found = board.window_at(address);
         let number = access_refusal(address, size, found);
@@ -84,7 +83,7 @@ impl Route {
     }
 
     fn offer(board: Board, port: u8, byte: u8) -> Self
-        ensures { λ r. ⌜ r ≡ private.offered board port byte ⌝ }
+        ensures { λ r. ⌜ r ≡ private.offerRoute board port byte ⌝ }
     {
         if board.ports <= port {
             return Route::Refused(refusal::NO_PORT);
@@ -96,7 +95,7 @@ impl Route {
     }
 
     fn read_device(device: Device, offset: u32) -> Self
-        ensures { λ r. ⌜ r ≡ private.reads device offset ⌝ }
+        ensures { λ r. ⌜ r ≡ private.readRoute device offset ⌝ }
     {
         match device {
             Device::Port(n) => Route::Port {
@@ -108,7 +107,7 @@ impl Route {
     }
 
     fn write_device(device: Device, offset: u32, value: u32) -> Self
-        ensures { λ r. ⌜ r ≡ private.writes value device offset ⌝ }
+        ensures { λ r. ⌜ r ≡ private.writeRoute value device offset ⌝ }
     {
         match device {
             Device::Port(n) => Route::Port {
@@ -120,7 +119,7 @@ impl Route {
     }
 }
 
-// The refusal number of an access: 1, or another by its size. The size is then a constant, so that no remainder is a division.
+// 1 for a bad size. Each other size is passed on as a constant, so that `address % size` is no division.
 fn access_refusal(address: u32, size: u8, found: Found) -> u8
     ensures { λ r. ⌜ r ≡ private.accessNumber address size found ⌝ }
 {

@@ -6,7 +6,7 @@ ghost use Prim.Native.Nat.{_≤_};
 ghost use lib.ListN.{length};
 ghost use Rattle.devices.specs.Apbuart as uart;
 ghost use Rattle.devices.specs.Fifo.{queued};
-ghost use Rattle.devices.specs.Apbuart.Call as calls;
+ghost use Rattle.devices.specs.Apbuart.Call.{answerTo};
 ghost use Rattle.devices.specs.Apbuart.View.{portOf, answerOf, Conforms};
 use crate::fifo::DEPTH;
 use crate::fifo::Fifo;
@@ -20,7 +20,7 @@ pub struct Apbuart {
     pub queue: Fifo,
 }
 
-// What a bus asks of a port.
+// A call that a bus makes on one port.
 pub enum Call {
     Read { offset: u32 },
     Write { offset: u32, value: u32 },
@@ -177,9 +177,9 @@ impl Apbuart {
         }
     }
 
-    // Any of these three calls.
+    // A read, a write or an offered byte, as a value.
     pub fn call(self, call: Call) -> Answer
-        ensures { λ r. ⌜ Conforms self (calls.call call (portOf self)) r ⌝ }
+        ensures { λ r. ⌜ Conforms self (answerTo call (portOf self)) r ⌝ }
     {
         match call {
             Call::Read { offset } => self.read(offset),

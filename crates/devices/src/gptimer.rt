@@ -419,7 +419,7 @@ impl Gptimer {
         self.pass(Span::ToPulse(limit))
     }
 
-    // An advance or a skip. It ends in one call of `advance`, so that the compiler puts it where it is called.
+    // An advance or a skip, as a value. `advance` is called in one place, so that the compiler inlines it.
     pub fn pass(self, span: Span) -> Elapsed
         ensures { λ r. ⌜ r ≡ spans.pass span self ⌝ }
     {

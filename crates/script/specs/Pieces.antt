@@ -26,6 +26,6 @@ pub data InPieces : List ℕ → List (List ℕ) → Type 0 where
       {piece rest : List ℕ} {pieces : List (List ℕ)} → length piece ≡ pieceLength → InPieces rest pieces →
       InPieces (piece ++ rest) (piece ∷ pieces)
 
--- Room in the log for what a piece logs: a log record for each record. The program lends each piece so much or more.
+-- Room in the log for what a piece logs: a log record for each record.
 abbrev pub logLength : ℕ
 logLength = logs.entryLength * (pieceLength / recordLength)

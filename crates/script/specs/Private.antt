@@ -14,12 +14,9 @@ use Rattle.script.specs.declared.record.Fields.{Fields}
 abbrev pub reversed : (count n : ℕ) → ℕ
 reversed count n = number 0 count (reverse (encoded count n))
 
--- the lines of the table for kinds 4 to 6, and the blanks that each of them has
+-- the lines of the table for kinds 4 to 6
 abbrev pub lines4to6 : Fields → List Line
 lines4to6 r = advanceLine r ∷ skipLine r ∷ resetLine r ∷ []
-
-abbrev pub blanks4to6 : Fields → List ℕ
-blanks4to6 r = r .byte_1 ∷ r .byte_2 ∷ r .byte_3 ∷ r .bytes_4_7 ∷ []
 
 -- numbers of 8 bytes, one behind the other
 abbrev pub longs : List ℕ → List ℕ
@@ -32,8 +29,8 @@ firstLong refusal emitted byte levels value =
     encoded 1 refusal ++ encoded 1 (cond emitted 1 0) ++ encoded 1 byte ++ encoded 1 levels ++ encoded 4 value
 
 -- a log record of a call in which no time passed
-abbrev pub atOnce : (refusal : ℕ) (emitted : Bool) (byte levels value : ℕ) → List ℕ
-atOnce refusal emitted byte levels value =
+abbrev pub untimedEntry : (refusal : ℕ) (emitted : Bool) (byte levels value : ℕ) → List ℕ
+untimedEntry refusal emitted byte levels value =
     firstLong refusal emitted byte levels value ++ longs (0 ∷ 0 ∷ 0 ∷ 0 ∷ 0 ∷ [])
 
 -- The machine that some records leave, and the log that they are written to.

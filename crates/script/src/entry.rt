@@ -84,7 +84,7 @@ pub(crate) fn of_span(log: &mut [u8], at: usize, elapsed: Elapsed, machine: Mach
 // The record of a call in which no time passed.
 fn put(log: &mut [u8], at: usize, refusal: u8, emitted: bool, byte: u8, levels: u8, value: u32)
     requires { ⌜ at + logs.entryLength ≤ length (now log) ⌝ }
-    ensures { λ r. ⌜ now (log .exit) ≡ wrote (now (log .entry)) at (private.atOnce refusal emitted byte levels value) ⌝ }
+    ensures { λ r. ⌜ now (log .exit) ≡ wrote (now (log .entry)) at (private.untimedEntry refusal emitted byte levels value) ⌝ }
 {
     let first = first_long(refusal, emitted, byte, levels, value);
     put_longs(log, at, [first, 0, 0, 0, 0, 0]);

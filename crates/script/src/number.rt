@@ -1,4 +1,4 @@
-// Big-endian numbers in lent bytes, at every width.
+// Big-endian numbers in lent bytes: read at any width up to 8 bytes, written at 8.
 ghost use mathlib.Core.Path.{_≡_};
 ghost use Prim.Native.Nat.{_+_, _^_, _≤_, _<_};
 ghost use lib.ListN.{length};
@@ -62,7 +62,7 @@ pub(crate) fn long(bytes: &[u8], at: usize) -> u64
     word(bytes, at) as u64 * 0x1_0000_0000 + word(bytes, at + 4) as u64
 }
 
-// Puts a number into the 8 bytes from `at` on: by value first, so that it is one store.
+// Puts a number into the 8 bytes from `at` on, by way of an array: that compiles to one store.
 pub(crate) fn put_long(bytes: &mut [u8], at: usize, n: u64)
     requires { ⌜ at + 8 ≤ length (now bytes) ⌝ }
     ensures { λ r. ⌜ now (bytes .exit) ≡ wrote (now (bytes .entry)) at (big.encoded 8 n) ⌝ }

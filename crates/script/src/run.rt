@@ -82,8 +82,8 @@ fn run_records(machine: Machine, script: &[u8], log: &mut [u8], count: usize) ->
 }
 
 // Every call on a well-formed machine leaves one, so the test for 9 is once a run. The machine is a local of this loop, and
-// what a record leads to is done here: the one device that changed is then stored where it lies, and nothing else is moved.
-// (`Machine::call` has the same arms.)
+// each route is carried out here: only the device that changed is stored, and the machine is not moved. (`Machine::carry_out`
+// has the same arms, by value.) The count goes up before the arms part, so that each has its own way to the next turn.
 fn play(machine: Machine, script: &[u8], log: &mut [u8], count: usize) -> Machine
     requires { ⌜ scripts.recordLength * count < length (now script) + scripts.recordLength ⌝ }
     requires { ⌜ logs.entryLength * count ≤ length (now log) ⌝ }

@@ -5,13 +5,13 @@ use mathlib.Core.Path.{_≡_}
 use mathlib.Core.Logic.{⊎-elim}
 use lib.ListN.{length}
 use Rattle.script.specs.Pieces.{pieceLength, logLength}
-use Rattle.apsrun.proofs.Buffers.{gathered, counted, back-length, end-before, same-within, logged-fits, end-fits, end-in}
+use Rattle.apsrun.proofs.Buffers.{bufferLength, counted, back-length, end-before, same-within, logged-fits, end-fits, end-in}
 use Rattle.apsrun.proofs.run.Statement.{statement}
 use Rattle.apsrun.proofs.run.Tie as tie
 
 abbrev Inv-loop : tie.InvT-loop
 Inv-loop script₀ log₀ end₀ machine₀ turns₀ script log end machine turns =
-    (length script ≡ pieceLength) × (length log ≡ gathered) × (end + logLength ≤ gathered)
+    (length script ≡ pieceLength) × (length log ≡ bufferLength) × (end + logLength ≤ bufferLength)
 
 abbrev μ-loop : tie.MeasureT-loop
 μ-loop script₀ log₀ end₀ machine₀ turns₀ script log end machine turns = turns

@@ -20,7 +20,7 @@ use Rattle.bus.specs.Call.{byteFor, readDevice, writeDevice, reach, exec
 use Rattle.bus.specs.Call.Laws.{answer-executed, answer-refused, well-at, no-port-number, offer-number, other-number}
 use Rattle.bus.specs.Route as routes
 use Rattle.bus.specs.Route.{portCalled, carriedOut, Leads}
-use Rattle.bus.specs.Private.{accessNumber, reads, writes, reached, accessed, offered, route}
+use Rattle.bus.specs.Private.{accessNumber, readRoute, writeRoute, windowRoute, accessRoute, offerRoute}
 use Rattle.bus.specs.declared.board.Window.{Window}
 use Rattle.bus.specs.declared.board.Device.{Device}
 use Rattle.bus.specs.declared.board.Device.the-variants.{Port, TimerUnit}
@@ -31,19 +31,31 @@ use Rattle.bus.specs.declared.machine.Call.{Call}
 use Rattle.bus.specs.declared.machine.Call.the-variants.{Read, Write, Offer, Advance, Skip, Reset, Malformed}
 use Rattle.bus.specs.declared.route.Route.{Route}
 use Rattle.bus.specs.declared.route.Route.the-variants.{Refused}
+use Rattle.bus.specs.declared.route.Route.the-variants as to
+use Rattle.devices.specs.declared.gptimer.Span.the-variants as span
+
+-- Where a call leads.
+unfoldable pub route : Board → Call → Route
+route b (Read address size) = accessRoute readRoute address size (windowAt address (b .windows))
+route b (Write address size value) = accessRoute (writeRoute value) address size (windowAt address (b .windows))
+route b (Offer n byte) = offerRoute b n byte
+route b (Advance cycles) = to.Pass (span.Cycles cycles)
+route b (Skip limit) = to.Pass (span.ToPulse limit)
+route b Reset = to.Reset
+route b Malformed = Refused badRecord
 
 -- what a port answers that does not refuse
 called : (n : ℕ) (a : uart.Answer) (m : Machine) → a .refusal ≡ notRefused → ofPort n a m ≡ portCalled n a m
 called n a m e = rw e refl
 
 module _ (m : Machine) (w : wellFormed m ≡ true) where
-  reads-out : (d : Device) (offset : ℕ) → readDevice m d offset ≡ carriedOut (reads d offset) m
+  reads-out : (d : Device) (offset : ℕ) → readDevice m d offset ≡ carriedOut (readRoute d offset) m
   unfolding carriedOut
   reads-out (Port n) offset =
       called n (uart.read offset (portAt n m)) m (read-accepted (portAt n m) (well-at (m .ports) n w) offset)
   reads-out TimerUnit offset = refl
 
-  writes-out : (value : ℕ) (d : Device) (offset : ℕ) → writeDevice value m d offset ≡ carriedOut (writes value d offset) m
+  writes-out : (value : ℕ) (d : Device) (offset : ℕ) → writeDevice value m d offset ≡ carriedOut (writeRoute value d offset) m
   unfolding carriedOut
   writes-out value (Port n) offset =
       called n (uart.write offset value (portAt n m)) m (write-accepted (portAt n m) (well-at (m .ports) n w) offset value)
@@ -53,26 +65,26 @@ module _ (m : Machine) (w : wellFormed m ≡ true) where
   module _
       (c : Call) (reply : Device → ℕ → Answer) (own : Device → ℕ → Route) (address size : ℕ)
       (out : (d : Device) (offset : ℕ) → reply d offset ≡ carriedOut (own d offset) m) where
-    reached-out : (found : Found) → reach reply m address found ≡ carriedOut (reached own address found) m
+    reached-out : (found : Found) → reach reply m address found ≡ carriedOut (windowRoute own address found) m
     unfolding carriedOut
     reached-out (In v) = out (v .device) _
     reached-out Nowhere = refl
 
     accessed-out :
         (found : Found) → refusal (subject c m) m ≡ accessNumber address size found →
-        execute c m ≡ reach reply m address found → answer c m ≡ carriedOut (accessed own address size found) m
+        execute c m ≡ reach reply m address found → answer c m ≡ carriedOut (accessRoute own address size found) m
     unfolding carriedOut answer
     accessed-out found e f =
         let n = accessNumber address size found in
         rw (e, f, reached-out found)
-        (chosen (λ b (x : Route). cond b (carriedOut (reached own address found) m) (refused n m) ≡ carriedOut x m)
-        (eqb n notRefused) (reached own address found) (Refused n) refl refl)
+        (chosen (λ b (x : Route). cond b (carriedOut (windowRoute own address found) m) (refused n m) ≡ carriedOut x m)
+        (eqb n notRefused) (windowRoute own address found) (Refused n) refl refl)
 
-  -- an offered byte: one that the port refuses changes nothing
+  -- an offerRoute byte: one that the port refuses changes nothing
   same-port : (n k : ℕ) → refused k m ≡ portCalled n (uart.refused k (portAt n m)) m
   same-port n k = rw (set-getD (m .ports) n uart.resetState) refl
 
-  offered-out : (n byte : ℕ) → answer (Offer n byte) m ≡ carriedOut (offered (m .board) n byte) m
+  offered-out : (n byte : ℕ) → answer (Offer n byte) m ≡ carriedOut (offerRoute (m .board) n byte) m
   unfolding carriedOut
   offered-out n byte =
       tested (leb (m .board .ports) n)
@@ -92,9 +104,9 @@ module _ (m : Machine) (w : wellFormed m ≡ true) where
   routed : (c : Call) → answer c m ≡ carriedOut (route (m .board) c) m
   unfolding route refusal carriedOut
   routed (Read address size) =
-      accessed-out (Read address size) (readDevice m) reads address size reads-out (windowOf address m) (rw w refl) refl
+      accessed-out (Read address size) (readDevice m) readRoute address size reads-out (windowOf address m) (rw w refl) refl
   routed (Write address size value) =
-      accessed-out (Write address size value) (writeDevice value m) (writes value) address size (writes-out value)
+      accessed-out (Write address size value) (writeDevice value m) (writeRoute value) address size (writes-out value)
       (windowOf address m) (rw w refl) refl
   routed (Offer n byte) = offered-out n byte
   routed (Advance cycles) = answer-executed (Advance cycles) m (other-number m w)
@@ -115,35 +127,35 @@ found-there k address (w ∷ ws) t =
     (found-there k address ws (each .1))
 
 module _ (k : ℕ) where
-  reads-there : (d : Device) (offset : ℕ) → isThere k d ≡ true → routes.isThere k (reads d offset) ≡ true
+  reads-there : (d : Device) (offset : ℕ) → isThere k d ≡ true → routes.portExists k (readRoute d offset) ≡ true
   reads-there (Port n) offset t = t
   reads-there TimerUnit offset t = refl
 
-  writes-there : (value : ℕ) (d : Device) (offset : ℕ) → isThere k d ≡ true → routes.isThere k (writes value d offset) ≡ true
+  writes-there : (value : ℕ) (d : Device) (offset : ℕ) → isThere k d ≡ true → routes.portExists k (writeRoute value d offset) ≡ true
   writes-there value (Port n) offset t = t
   writes-there value TimerUnit offset t = refl
 
   module _
       (own : Device → ℕ → Route)
-      (own-there : (d : Device) (offset : ℕ) → isThere k d ≡ true → routes.isThere k (own d offset) ≡ true) where
-    reached-there : (address : ℕ) (found : Found) → foundThere k found ≡ true → routes.isThere k (reached own address found) ≡ true
+      (own-there : (d : Device) (offset : ℕ) → isThere k d ≡ true → routes.portExists k (own d offset) ≡ true) where
+    reached-there : (address : ℕ) (found : Found) → foundThere k found ≡ true → routes.portExists k (windowRoute own address found) ≡ true
     reached-there address (In w) t = own-there (w .device) _ t
     reached-there address Nowhere t = refl
 
     accessed-there :
         (address size : ℕ) (ws : List Window) → allThere k ws ≡ true →
-        routes.isThere k (accessed own address size (windowAt address ws)) ≡ true
+        routes.portExists k (accessRoute own address size (windowAt address ws)) ≡ true
     accessed-there address size ws t =
         let n = accessNumber address size (windowAt address ws) in
-        chosen (λ b (r : Route). routes.isThere k r ≡ true) (eqb n notRefused) (reached own address (windowAt address ws))
+        chosen (λ b (r : Route). routes.portExists k r ≡ true) (eqb n notRefused) (windowRoute own address (windowAt address ws))
         (Refused n) (reached-there address (windowAt address ws) (found-there k address ws t)) refl
 
 route-there :
-    (b : Board) (c : Call) → allThere (b .ports) (b .windows) ≡ true → routes.isThere (b .ports) (route b c) ≡ true
+    (b : Board) (c : Call) → allThere (b .ports) (b .windows) ≡ true → routes.portExists (b .ports) (route b c) ≡ true
 unfolding route
-route-there b (Read address size) t = accessed-there (b .ports) reads (reads-there (b .ports)) address size (b .windows) t
+route-there b (Read address size) t = accessed-there (b .ports) readRoute (reads-there (b .ports)) address size (b .windows) t
 route-there b (Write address size value) t =
-    accessed-there (b .ports) (writes value) (writes-there (b .ports) value) address size (b .windows) t
+    accessed-there (b .ports) (writeRoute value) (writes-there (b .ports) value) address size (b .windows) t
 route-there b (Offer n byte) t =
     tested (leb (b .ports) n) (λ beyond. rw beyond refl)
     (λ there. rw there (lt-ltb n (b .ports) (leb-false (b .ports) n there)))
@@ -157,5 +169,5 @@ pub leads : (b : Board) (c v : Call) (r : Route) → c ≡ v → r ≡ route b v
 leads b c v r e f =
     record {
       answers = λ m g w. routed m w c ∙ rw (g, e, ← f) refl;
-      there = λ t. rw (f, ← e) (route-there b c t);
+      port-exists = λ t. rw (f, ← e) (route-there b c t);
     }

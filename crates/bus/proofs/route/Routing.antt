@@ -5,7 +5,7 @@ use borrow.Author.Tests.{eq-eqb, ne-eqb}
 use Rattle.devices.specs.Refusal.{notRefused}
 use Rattle.devices.specs.declared.apbuart.Call.the-variants as port
 use Rattle.bus.specs.Refusal.{badSize, notAWord}
-use Rattle.bus.specs.Private.{accessNumber, placeNumber, reads, writes, reached, accessed}
+use Rattle.bus.specs.Private.{accessNumber, placeNumber, readRoute, writeRoute, windowRoute, accessRoute}
 use Rattle.bus.specs.declared.board.Window.{Window}
 use Rattle.bus.specs.declared.board.Device.{Device}
 use Rattle.bus.specs.declared.board.Device.the-variants as device
@@ -32,35 +32,35 @@ not-sized address size found four two one = rw (ne-eqb size 4 four, ne-eqb size 
 
 -- a device's own call
 module _ (d : Device) (offset : ℕ) where
-  pub reads-port : (n : ℕ) → d ≡ device.Port n → Port n (port.Read offset) ≡ reads d offset
+  pub reads-port : (n : ℕ) → d ≡ device.Port n → Port n (port.Read offset) ≡ readRoute d offset
   reads-port n e = rw e refl
 
-  pub reads-unit : d ≡ device.TimerUnit → ReadUnit offset ≡ reads d offset
+  pub reads-unit : d ≡ device.TimerUnit → ReadUnit offset ≡ readRoute d offset
   reads-unit e = rw e refl
 
-  pub writes-port : (n value : ℕ) → d ≡ device.Port n → Port n (port.Write offset value) ≡ writes value d offset
+  pub writes-port : (n value : ℕ) → d ≡ device.Port n → Port n (port.Write offset value) ≡ writeRoute value d offset
   writes-port n value e = rw e refl
 
-  pub writes-unit : (value : ℕ) → d ≡ device.TimerUnit → WriteUnit offset value ≡ writes value d offset
+  pub writes-unit : (value : ℕ) → d ≡ device.TimerUnit → WriteUnit offset value ≡ writeRoute value d offset
   writes-unit value e = rw e refl
 
 -- an access, by its number and its window
 module _
     (own : Device → ℕ → Route) (address size n : ℕ) (f g : Found) (e : f ≡ g) (given : n ≡ accessNumber address size f) where
-  pub access-refused : (n ≡ notRefused → ⊥) → Refused n ≡ accessed own address size g
+  pub access-refused : (n ≡ notRefused → ⊥) → Refused n ≡ accessRoute own address size g
   access-refused differs = rw (← e, ← given, ne-eqb n notRefused differs) refl
 
   module _ (z : n ≡ notRefused) where
     pub access-in :
         (w : Window) (o : ℕ) (r : Route) → f ≡ In w → o ≡ address - w .base → r ≡ own (w .device) o →
-        r ≡ accessed own address size g
+        r ≡ accessRoute own address size g
     access-in w o r h k l =
-        let there : reached own address f ≡ r = rw (h, ← k) (sym l) in
+        let there : windowRoute own address f ≡ r = rw (h, ← k) (sym l) in
         rw (← e, ← given, eq-eqb n notRefused z) (sym there)
 
-    pub access-none : f ≡ Nowhere → Refused notRefused ≡ accessed own address size g
+    pub access-none : f ≡ Nowhere → Refused notRefused ≡ accessRoute own address size g
     access-none h =
-        let there : reached own address f ≡ Refused notRefused = rw h refl in
+        let there : windowRoute own address f ≡ Refused notRefused = rw h refl in
         rw (← e, ← given, eq-eqb n notRefused z) (sym there)
 
 pub ruleset sizing = (sized-4, sized-2, sized-1, not-sized)

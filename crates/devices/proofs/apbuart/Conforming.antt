@@ -9,7 +9,7 @@ use Rattle.devices.specs.Refusal.{notRefused}
 use Rattle.devices.specs.Fifo.{queued}
 use Rattle.devices.specs.Apbuart.{Port, Answer, depth, wellFormed, refused, accepted, emitting}
 use Rattle.devices.specs.Apbuart.{withQueue, updateLevel, oldest, younger}
-use Rattle.devices.specs.Apbuart.Call.{call}
+use Rattle.devices.specs.Apbuart.Call.{answerTo}
 use Rattle.devices.specs.Apbuart.Laws.{well-queue}
 use Rattle.devices.specs.Apbuart.View.{portOf, answerOf, Conforms}
 use Rattle.devices.specs.declared.apbuart.Apbuart.{Apbuart}
@@ -32,7 +32,7 @@ module _ (u : Apbuart) (a : code.Answer) where
   answered b t x y e p = rw (← e) p
 
   -- a call by its variant
-  pub by-variant : (k v : Call) → k ≡ v → Conforms u (call v (portOf u)) a → Conforms u (call k (portOf u)) a
+  pub by-variant : (k v : Call) → k ≡ v → Conforms u (answerTo v (portOf u)) a → Conforms u (answerTo k (portOf u)) a
   by-variant k v e h = rw e h
 
   -- an answer that is not refused

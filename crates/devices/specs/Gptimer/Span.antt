@@ -1,4 +1,4 @@
--- An advance or a skip, as a value of the code's enum.
+-- What an advance or a skip means that is given as a value of the code's enum.
 use Rattle.devices.specs.Gptimer.{advance, skip}
 use Rattle.devices.specs.declared.gptimer.Gptimer.{Gptimer}
 use Rattle.devices.specs.declared.gptimer.Elapsed.{Elapsed}

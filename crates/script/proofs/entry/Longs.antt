@@ -16,7 +16,7 @@ use Rattle.script.specs.Number.{encoded}
 use Rattle.script.specs.Number.Laws.{encoded-join, length-encoded}
 use Rattle.script.specs.Buffer.{wrote}
 use Rattle.script.specs.Log.{entry}
-use Rattle.script.specs.Private.{longs, firstLong, atOnce}
+use Rattle.script.specs.Private.{longs, firstLong, untimedEntry}
 use Rattle.script.proofs.Writing.{wrote-join}
 
 -- The first 8 bytes as one number.
@@ -65,11 +65,11 @@ module _ (l₀ l : List ℕ) (at i : ℕ) (ns : List ℕ) (so-far : l ≡ wrote 
 
 -- A whole record, with the levels of the machine after the call.
 module _ (l l′ : List ℕ) (at levels : ℕ) (m : Machine) (e : levels ≡ bus.levels m) where
-  pub at-once-entry :
-      (refusal : ℕ) (emitted : Bool) (byte value : ℕ) → l′ ≡ wrote l at (atOnce refusal emitted byte levels value) →
+  pub untimed-entry :
+      (refusal : ℕ) (emitted : Bool) (byte value : ℕ) → l′ ≡ wrote l at (untimedEntry refusal emitted byte levels value) →
       l′ ≡ wrote l at (entry (bus.answered refusal emitted byte value 0 bus.noPulses m))
   unfolding entry
-  at-once-entry refusal emitted byte value f = f ∙ ap (wrote l at) (rw e (simp (append-assoc, append-nil)))
+  untimed-entry refusal emitted byte value f = f ∙ ap (wrote l at) (rw e (simp (append-assoc, append-nil)))
 
   pub span-entry :
       (first : ℕ) (x : Elapsed) → encoded 8 first ≡ firstLong notRefused false 0 levels 0 →
@@ -85,5 +85,5 @@ module _ (l l′ : List ℕ) (at levels : ℕ) (m : Machine) (e : levels ≡ bus
 pub first-only :
     (l l′ : List ℕ) (at first refusal : ℕ) (emitted : Bool) (byte levels value : ℕ) →
     encoded 8 first ≡ firstLong refusal emitted byte levels value →
-    l′ ≡ wrote l at (longs (first ∷ 0 ∷ 0 ∷ 0 ∷ 0 ∷ 0 ∷ [])) → l′ ≡ wrote l at (atOnce refusal emitted byte levels value)
+    l′ ≡ wrote l at (longs (first ∷ 0 ∷ 0 ∷ 0 ∷ 0 ∷ 0 ∷ [])) → l′ ≡ wrote l at (untimedEntry refusal emitted byte levels value)
 first-only l l′ at first refusal emitted byte levels value e f = rw (← e) f

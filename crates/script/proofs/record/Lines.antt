@@ -11,7 +11,7 @@ use Rattle.bus.specs.declared.machine.Call.{Call}
 use Rattle.bus.specs.declared.machine.Call.the-variants.{Advance, Skip, Reset, Malformed}
 use Rattle.script.specs.Script.{recordLength, ADVANCE, SKIP, RESET, fields, Line, table}
 use Rattle.script.specs.Script.{allZero, callOn, callAmong, callIn}
-use Rattle.script.specs.Private.{lines4to6, blanks4to6}
+use Rattle.script.specs.Private.{lines4to6}
 use Rattle.script.specs.declared.record.Fields.{Fields}
 
 module _ (l : Line) (b : Bool) (e : b ≡ allZero (l .blanks)) where
@@ -25,6 +25,9 @@ module _ (l : Line) (b : Bool) (e : b ≡ allZero (l .blanks)) where
 one-more : (ms : List ℕ) (n : ℕ) → allZero (ms ++ (n ∷ [])) ≡ (allZero ms && eqb n 0)
 one-more [] n = and-true (eqb n 0)
 one-more (m ∷ ms) n = rw (one-more ms n) (sym (and-assoc (eqb m 0) (allZero ms) (eqb n 0)))
+
+abbrev blanks4to6 : Fields → List ℕ
+blanks4to6 r = r .byte_1 ∷ r .byte_2 ∷ r .byte_3 ∷ r .bytes_4_7 ∷ []
 
 module _ (f : Fields) (b : Bool) (e : b ≡ allZero (blanks4to6 f)) where
   pub shared-zero :

@@ -13,7 +13,7 @@ use Rattle.bus.specs.Call.{answer}
 use Rattle.bus.specs.SlowRun.{answers}
 use Rattle.bus.specs.SlowRun.Laws.{answers-append, after-append, after-keeps}
 use Rattle.bus.specs.Route.{Leads}
-use Rattle.bus.specs.Route.Laws.{Came}
+use Rattle.bus.specs.Route.Laws.{Outcome}
 use Rattle.bus.specs.View.{machineOf}
 use Rattle.bus.specs.declared.machine.Machine.{Machine}
 use Rattle.bus.specs.declared.machine.Call.{Call}
@@ -45,26 +45,26 @@ module _ (script : List ℕ) (k n : ℕ) where
 
 -- Where the record at a place leads, by its call.
 pub led-by :
-    (script r : List ℕ) (i : ℕ) (c : Call) (way : Route) →
-    r ≡ take scripts.recordLength (drop (scripts.recordLength * i) script) → c ≡ callIn r → Leads gr712rc c way →
-    Leads gr712rc (callIn (take scripts.recordLength (drop (scripts.recordLength * i) script))) way
-led-by script r i c way e f h = rw (← e, ← f) h
+    (script r : List ℕ) (i : ℕ) (c : Call) (route : Route) →
+    r ≡ take scripts.recordLength (drop (scripts.recordLength * i) script) → c ≡ callIn r → Leads gr712rc c route →
+    Leads gr712rc (callIn (take scripts.recordLength (drop (scripts.recordLength * i) script))) route
+led-by script r i c route e f h = rw (← e, ← f) h
 
 -- None of the records, one more, and all.
 pub none-played : (script log : List ℕ) (m : Machine) → Played (ran 0 script log (machineOf m)) m log
 none-played script log m = record { log = none-written log 0; machine = refl }
 
 pub one-more :
-    (script log₀ : List ℕ) (m₀ : bus.Machine) (i count : ℕ) (m next : Machine) (log bytes : List ℕ) (way : Route)
+    (script log₀ : List ℕ) (m₀ : bus.Machine) (i count : ℕ) (m next : Machine) (log bytes : List ℕ) (route : Route)
     (a : bus.Answer) → Played (ran i script log₀ m₀) m log →
-    Leads gr712rc (callIn (take scripts.recordLength (drop (scripts.recordLength * i) script))) way →
+    Leads gr712rc (callIn (take scripts.recordLength (drop (scripts.recordLength * i) script))) route →
     bus.wellFormed m₀ ≡ true → i < count → logs.entryLength * count ≤ length log₀ →
-    bytes ≡ wrote log (logs.entryLength * i) (entry a) → Came m way a next → Played (ran (i + 1) script log₀ m₀) next bytes
-one-more script log₀ m₀ i count m next log bytes way a so-far led well within fits logged came =
+    bytes ≡ wrote log (logs.entryLength * i) (entry a) → Outcome m route a next → Played (ran (i + 1) script log₀ m₀) next bytes
+one-more script log₀ m₀ i count m next log bytes route a so-far led well within fits logged outcome =
     let c = callIn (take scripts.recordLength (drop (scripts.recordLength * i) script)) in
     let still : bus.wellFormed (machineOf m) ≡ true =
     ap bus.wellFormed (so-far .machine) ∙ after-keeps (calls i script) m₀ ∙ well in
-    let answered : answer c (machineOf m) ≡ a = led .answers (machineOf m) refl still ∙ came .is in
+    let answered : answer c (machineOf m) ≡ a = led .answers (machineOf m) refl still ∙ outcome .answer in
     let before = entries (answers (calls i script) m₀) in
     let more : entries (answers (calls (i + 1) script) m₀) ≡ before ++ entry a =
     rw (
@@ -82,7 +82,7 @@ one-more script log₀ m₀ i count m next log bytes way a so-far led well withi
           (wrote-join log₀ before (entry a) 0 (logs.entryLength * i) (written-length i script m₀)
           (rw zero-add (omega arith)));
       machine =
-          sym (came .left) ∙ sym (ap (λ (x : bus.Answer). x .machine) answered) ∙
+          sym (outcome .machine) ∙ sym (ap (λ (x : bus.Answer). x .machine) answered) ∙
           rw (calls-add i 1 script, after-append (calls i script) (c ∷ []) m₀, ← so-far .machine) refl;
     }
 

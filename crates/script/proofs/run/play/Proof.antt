@@ -5,8 +5,8 @@ use Prim.Native.Nat.{_-_, _≤_}
 use mathlib.Core.Path.{_≡_, refl}
 use lib.ListN.{length}
 use Rattle.devices.specs.Lists.{length-of}
-use Rattle.bus.specs.Route.Laws.{port-there, refused-came, port-came, unit-read-came, unit-write-came}
-use Rattle.bus.specs.Route.Laws.{pass-came, reset-came}
+use Rattle.bus.specs.Route.Laws.{port-there, refused-outcome, port-outcome, unit-read-outcome, unit-write-outcome}
+use Rattle.bus.specs.Route.Laws.{pass-outcome, reset-outcome}
 use Rattle.bus.specs.View.{machineOf}
 use Rattle.script.specs.Run.{ran}
 use Rattle.script.specs.Private.{Played}
@@ -29,21 +29,21 @@ play-spec =
     (λ c κs. search needs) (λ c. search needs)
     -- refused
     (λ c. search needs) (λ c κs. search needs) (λ c. search needs)
-    (λ c. (search needs, search (needs, length-of), search needs, search (one-more, refused-came)))
+    (λ c. (search needs, search (needs, length-of), search needs, search (one-more, refused-outcome)))
     -- a port's call
     (λ c. search needs) (λ c. search port-there) (λ c. search port-there) (λ c κs. search needs)
     (λ c. search port-there) (λ c. search port-there) (λ c κs. search needs) (λ c. search needs)
-    (λ c. (search needs, search (needs, length-of), search needs, search (one-more, port-came, port-there)))
+    (λ c. (search needs, search (needs, length-of), search needs, search (one-more, port-outcome, port-there)))
     -- a read of the timer unit
     (λ c. search needs) (λ c κs. search needs) (λ c κs. search needs) (λ c. search needs)
-    (λ c. (search needs, search (needs, length-of), search needs, search (one-more, unit-read-came)))
+    (λ c. (search needs, search (needs, length-of), search needs, search (one-more, unit-read-outcome)))
     -- a write
     (λ c. search needs) (λ c κs. search needs) (λ c κs. search needs) (λ c. search needs)
-    (λ c. (search needs, search (needs, length-of), search needs, search (one-more, unit-write-came)))
+    (λ c. (search needs, search (needs, length-of), search needs, search (one-more, unit-write-outcome)))
     -- a span of time
     (λ c. search needs) (λ c κs. search needs) (λ c κs. search needs) (λ c. search needs)
-    (λ c. (search needs, search (needs, length-of), search needs, search (one-more, pass-came)))
+    (λ c. (search needs, search (needs, length-of), search needs, search (one-more, pass-outcome)))
     -- a reset
     (λ c. search needs) (λ c κs. search needs) (λ c κs. search needs) (λ c. search needs)
-    (λ c. (search needs, search (needs, length-of), search needs, search (one-more, reset-came)))
+    (λ c. (search needs, search (needs, length-of), search needs, search (one-more, reset-outcome)))
     (λ c. search needs) (λ c. search all-played))

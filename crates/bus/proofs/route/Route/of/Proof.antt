@@ -1,7 +1,6 @@
 -- By the variant. Assumes nothing.
 use borrow.Author.Needs.{needs}
-use Rattle.bus.specs.Private.{route}
-use Rattle.bus.proofs.route.Leading.{leads}
+use Rattle.bus.proofs.route.Leading.{route, leads}
 use Rattle.bus.proofs.route.Route.of.Statement.{statement}
 use Rattle.bus.proofs.route.Route.of.Tie as tie
 
