@@ -352,7 +352,7 @@ for faults in ({"READ_MOST": 1, "READ_EINTR": 2}, {"WRITE_MOST": 1, "WRITE_EINTR
     faulty("a script of 4 bytes", b"APS\x00", b"refused 11\n", faults)
 
 
-# A read that fails: the pieces before are logged, no record is that was not read whole, and no tail is made up.
+# A read that fails: the pieces before are logged, no record that was not read whole is, and no tail is made up.
 def read_fails(name, data, whole, n, most=None):
     size = most or PIECE
     pieces = (n - 1 - -(-5 // size)) // -(-PIECE // size)  # by reads of the header and of whole pieces
