@@ -1,32 +1,35 @@
 -- What functions of the crate that are not public promise; no public contract cites this.
 use Prim.Native.Nat.{ℕ, _-_, _%_}
-use mathlib.Core.Bool.{true, cond, not}
+use mathlib.Core.Bool.{true, cond, not, _||_}
 use mathlib.Core.List.{[], _∷_}
 use lib.Dec.{eqb, leb}
 use Rattle.devices.specs.Refusal.{notRefused}
 use Rattle.devices.specs.declared.apbuart.Call.the-variants as port
-use Rattle.bus.specs.Refusal.{noWindow, pastWindow, misaligned, noPort}
-use Rattle.bus.specs.Board.{gr712rc}
-use Rattle.bus.specs.Machine.{resetState}
-use Rattle.bus.specs.Call.{_when_, first, rules, access, nowhere, runsPast}
+use Rattle.bus.specs.Refusal.{badSize, noWindow, pastWindow, misaligned, notAWord, noPort}
+use Rattle.bus.specs.Call.{_when_, first, isSize, runsPast}
 use Rattle.bus.specs.declared.board.Device.{Device}
 use Rattle.bus.specs.declared.board.Device.the-variants as device
+use Rattle.bus.specs.declared.board.Window.{Window}
 use Rattle.bus.specs.declared.board.Board.{Board}
 use Rattle.bus.specs.declared.board.Found.{Found}
 use Rattle.bus.specs.declared.board.Found.the-variants.{In, Nowhere}
 use Rattle.bus.specs.declared.route.Route.{Route}
 use Rattle.bus.specs.declared.route.Route.the-variants.{Refused, Port, ReadUnit, WriteUnit}
 
--- an access's number, 1 to 5: the table's, whose lines for an access look at no machine
-abbrev pub accessNumber : (address size : ℕ) → Found → ℕ
-accessNumber address size found = first (rules (access address size found) (resetState gr712rc))
-
--- its lines for 2 to 4, or a number
-abbrev pub placeNumber : (address size number : ℕ) → Found → ℕ
-placeNumber address size number found =
+-- the table's lines for 3 to 5, of an access in a window
+abbrev pub windowNumber : (address size : ℕ) → Window → ℕ
+windowNumber address size w =
     first
-    (noWindow when nowhere found ∷
-    pastWindow when runsPast address size found ∷
+    (pastWindow when runsPast address size (In w) ∷
+    misaligned when not (eqb (address % size) 0) ∷
+    notAWord when (eqb size 1 || eqb size 2) ∷
+    [])
+
+-- those for 3 and 4, or a number
+abbrev pub placeNumber : (address size number : ℕ) → Window → ℕ
+placeNumber address size number w =
+    first
+    (pastWindow when runsPast address size (In w) ∷
     misaligned when not (eqb (address % size) 0) ∷
     number when true ∷
     [])
@@ -40,15 +43,15 @@ abbrev pub writeRoute : ℕ → Device → ℕ → Route
 writeRoute value (device.Port n) offset = Port n (port.Write offset value)
 writeRoute value device.TimerUnit offset = WriteUnit offset value
 
--- that of an access of a window's device; one of no window is refused, so what stands for it here is not reached
-abbrev pub windowRoute : (Device → ℕ → Route) → ℕ → Found → Route
-windowRoute own address (In w) = own (w .device) (address - w .base)
-windowRoute own address Nowhere = Refused notRefused
+-- that of an access: 1, then 2, then 3 to 5, then the device of the window
+abbrev pub windowRoute : (Device → ℕ → Route) → (address size : ℕ) → Found → Route
+windowRoute own address size Nowhere = Refused noWindow
+windowRoute own address size (In w) =
+    cond (eqb (windowNumber address size w) notRefused) (own (w .device) (address - w .base))
+    (Refused (windowNumber address size w))
 
 abbrev pub accessRoute : (Device → ℕ → Route) → (address size : ℕ) → Found → Route
-accessRoute own address size found =
-    cond (eqb (accessNumber address size found) notRefused) (windowRoute own address found)
-    (Refused (accessNumber address size found))
+accessRoute own address size found = cond (isSize size) (windowRoute own address size found) (Refused badSize)
 
 abbrev pub offerRoute : Board → ℕ → ℕ → Route
 offerRoute b n byte = cond (leb (b .ports) n) (Refused noPort) (Port n (port.Offer byte))

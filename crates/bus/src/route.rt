@@ -1,13 +1,16 @@
 // Where a call leads on a board. The board and the call decide it, no state: the call is refused with a number that no state
 // decides (1 to 6 and 10), or it is one device's own call, a span of time or a reset. 9 is judged apart, 7 and 8 by the port.
 ghost use mathlib.Core.Path.{_≡_};
+ghost use mathlib.Core.Bool.{true};
 ghost use Prim.Native.Nat.{_<_};
 ghost use Rattle.bus.specs.Board.{windowAt};
+ghost use Rattle.bus.specs.Call.{isSize};
 ghost use Rattle.bus.specs.Route.{Leads};
 ghost use Rattle.bus.specs.Private as private;
 use crate::board::Board;
 use crate::board::Device;
 use crate::board::Found;
+use crate::board::Window;
 use crate::machine::Call;
 use crate::refusal;
 use devices::apbuart;
@@ -50,36 +53,35 @@ impl Route {
     fn read(board: Board, address: u32, size: u8) -> Self
         ensures { λ r. ⌜ r ≡ private.accessRoute private.readRoute address size (windowAt address (board .windows)) ⌝ }
     {
-        let found = board.window_at(address);
-        let number = access_refusal(address, size, found);
+        if !is_size(size) {
+            return Route::Refused(refusal::BAD_SIZE);
+        }
+        let Found::In(window) = board.window_at(address) else {
+            return Route::Refused(refusal::NO_WINDOW);
+        };
+        let number = window_refusal(address, size, window);
         if number != refusal::NOT_REFUSED {
             return Route::Refused(number);
         }
-        match found {
-            Found::In(window) => {
-                let device = window.device;
-                Self::read_device(device, window.offset(address))
-            }
-            // Refused above, so not reached; likewise below.
-            Found::Nowhere => Route::Refused(refusal::NOT_REFUSED),
-        }
+        let device = window.device;
+        Self::read_device(device, window.offset(address))
     }
 
     fn write(board: Board, address: u32, size: u8, value: u32) -> Self
         ensures { λ r. ⌜ r ≡ private.accessRoute (private.writeRoute value) address size (windowAt address (board .windows)) ⌝ }
     {
-        let found = board.window_at(address);
-        let number = access_refusal(address, size, found);
+        if !is_size(size) {
+            return Route::Refused(refusal::BAD_SIZE);
+        }
+        let Found::In(window) = board.window_at(address) else {
+            return Route::Refused(refusal::NO_WINDOW);
+        };
+        let number = window_refusal(address, size, window);
         if number != refusal::NOT_REFUSED {
             return Route::Refused(number);
         }
-        match found {
-            Found::In(window) => {
-                let device = window.device;
-                Self::write_device(device, window.offset(address), value)
-            }
-            Found::Nowhere => Route::Refused(refusal::NOT_REFUSED),
-        }
+        let device = window.device;
+        Self::write_device(device, window.offset(address), value)
     }
 
     fn offer(board: Board, port: u8, byte: u8) -> Self
@@ -119,31 +121,38 @@ impl Route {
     }
 }
 
-// 1 for a bad size. Each other size is passed on as a constant, so that `address % size` is no division.
-fn access_refusal(address: u32, size: u8, found: Found) -> u8
-    ensures { λ r. ⌜ r ≡ private.accessNumber address size found ⌝ }
+fn is_size(size: u8) -> bool
+    ensures { λ r. ⌜ r ≡ isSize size ⌝ }
 {
-    if size == 4 {
-        return place_refusal(address, 4, found, refusal::NOT_REFUSED);
+    if size == 1 {
+        return true;
     }
     if size == 2 {
-        return place_refusal(address, 2, found, refusal::NOT_A_WORD);
+        return true;
     }
-    if size == 1 {
-        return place_refusal(address, 1, found, refusal::NOT_A_WORD);
-    }
-    refusal::BAD_SIZE
+    size == 4
 }
 
-// 2 to 4 in that order, or `number` where none of them is given. The sum of an address and a size may lie past the last 32-bit
-// number.
-fn place_refusal(address: u32, size: u32, found: Found, number: u8) -> u8
-    requires { ⌜ (0 < size) × (size < 5) ⌝ }
-    ensures { λ r. ⌜ r ≡ private.placeNumber address size number found ⌝ }
+// 3 to 5 in that order. Each size is passed on as a constant, so that `address % size` is no division.
+fn window_refusal(address: u32, size: u8, window: Window) -> u8
+    requires { ⌜ isSize size ≡ true ⌝ }
+    ensures { λ r. ⌜ r ≡ private.windowNumber address size window ⌝ }
 {
-    let Found::In(window) = found else {
-        return refusal::NO_WINDOW;
-    };
+    if size == 4 {
+        return place_refusal(address, 4, window, refusal::NOT_REFUSED);
+    }
+    if size == 2 {
+        return place_refusal(address, 2, window, refusal::NOT_A_WORD);
+    }
+    place_refusal(address, 1, window, refusal::NOT_A_WORD)
+}
+
+// 3 and 4 in that order, or `number` where neither is given. The sum of an address and a size may lie past the last 32-bit
+// number.
+fn place_refusal(address: u32, size: u32, window: Window, number: u8) -> u8
+    requires { ⌜ (0 < size) × (size < 5) ⌝ }
+    ensures { λ r. ⌜ r ≡ private.placeNumber address size number window ⌝ }
+{
     if window.end() < address as u64 + size as u64 {
         return refusal::PAST_WINDOW;
     }

@@ -1,6 +1,6 @@
 -- On a well-formed machine a call's answer is that of its route carried out; and a port that a route names is there. Assumes
 -- nothing.
-use Prim.Native.Nat.{ℕ}
+use Prim.Native.Nat.{ℕ, _-_}
 use mathlib.Core.Path.{_≡_, refl, sym, ap, _∙_}
 use mathlib.Core.Bool.{Bool, true, cond, and-eq-true-iff}
 use mathlib.Core.List.{List, [], _∷_}
@@ -13,14 +13,15 @@ use Rattle.devices.specs.Cases.{chosen, tested}
 use Rattle.devices.specs.Refusal.{notRefused}
 use Rattle.devices.specs.Apbuart as uart
 use Rattle.devices.specs.Apbuart.Laws.{read-accepted, write-accepted, offer-refused}
-use Rattle.bus.specs.Refusal.{badRecord}
+use Rattle.bus.specs.Refusal.{badSize, noWindow, badRecord}
 use Rattle.bus.specs.Board.{allThere, isThere, holds, windowAt}
 use Rattle.bus.specs.Machine.{Machine, Answer, portAt, wellFormed, refused, ofPort}
-use Rattle.bus.specs.Call.{byteFor, readDevice, writeDevice, reach, execute, windowOf, subject, answer, refusal}
+use Rattle.bus.specs.Call.{isSize, first, rules, access, byteFor, readDevice, writeDevice, reach, execute, windowOf}
+use Rattle.bus.specs.Call.{subject, answer, refusal}
 use Rattle.bus.specs.Call.Laws.{answer-executed, answer-refused, well-at, no-port-number, offer-number, other-number}
 use Rattle.bus.specs.Route as routes
 use Rattle.bus.specs.Route.{portCalled, carriedOut, Leads}
-use Rattle.bus.specs.Private.{accessNumber, readRoute, writeRoute, windowRoute, accessRoute, offerRoute}
+use Rattle.bus.specs.Private.{windowNumber, readRoute, writeRoute, windowRoute, accessRoute, offerRoute}
 use Rattle.bus.specs.declared.board.Window.{Window}
 use Rattle.bus.specs.declared.board.Device.{Device}
 use Rattle.bus.specs.declared.board.Device.the-variants.{Port, TimerUnit}
@@ -61,26 +62,32 @@ module _ (m : Machine) (w : wellFormed m ≡ true) where
       called n (uart.write offset value (portAt n m)) m (write-accepted (portAt n m) (well-at (m .ports) n w) offset value)
   writes-out value TimerUnit offset = refl
 
-  -- an access, by its number: those of the table look at no machine
+  -- an access, by the table's lines for one, which look at no machine
   module _
       (c : Call) (reply : Device → ℕ → Answer) (own : Device → ℕ → Route) (address size : ℕ)
       (out : (d : Device) (offset : ℕ) → reply d offset ≡ carriedOut (own d offset) m) where
-    reached-out : (found : Found) → reach reply m address found ≡ carriedOut (windowRoute own address found) m
-    unfolding carriedOut
-    reached-out (In v) = out (v .device) _
-    reached-out Nowhere = refl
+    window-out :
+        (found : Found) → isSize size ≡ true → refusal (subject c m) m ≡ first (rules (access address size found) m) →
+        execute c m ≡ reach reply m address found → answer c m ≡ carriedOut (windowRoute own address size found) m
+    unfolding carriedOut answer
+    window-out Nowhere sized e f =
+        answer-refused c m noWindow (sym (e ∙ rw sized refl)) (λ z. absurd (omega arith))
+    window-out (In v) sized e f =
+        let n = windowNumber address size v in
+        let number : refusal (subject c m) m ≡ n = e ∙ rw sized refl in
+        rw (number, f, out (v .device) (address - v .base))
+        (chosen (λ b (x : Route). cond b (carriedOut (own (v .device) (address - v .base)) m) (refused n m) ≡ carriedOut x m)
+        (eqb n notRefused) (own (v .device) (address - v .base)) (Refused n) refl refl)
 
     accessed-out :
-        (found : Found) → refusal (subject c m) m ≡ accessNumber address size found →
+        (found : Found) → refusal (subject c m) m ≡ first (rules (access address size found) m) →
         execute c m ≡ reach reply m address found → answer c m ≡ carriedOut (accessRoute own address size found) m
-    unfolding carriedOut answer
+    unfolding carriedOut
     accessed-out found e f =
-        let n = accessNumber address size found in
-        rw (e, f, reached-out found)
-        (chosen (λ b (x : Route). cond b (carriedOut (windowRoute own address found) m) (refused n m) ≡ carriedOut x m)
-        (eqb n notRefused) (windowRoute own address found) (Refused n) refl refl)
+        tested (isSize size) (λ sized. rw sized (window-out found sized e f))
+        (λ other. rw other (answer-refused c m badSize (sym (e ∙ rw other refl)) (λ z. absurd (omega arith))))
 
-  -- an offerRoute byte: one that the port refuses changes nothing
+  -- an offered byte: one that the port refuses changes nothing
   same-port : (n k : ℕ) → refused k m ≡ portCalled n (uart.refused k (portAt n m)) m
   same-port n k = rw (set-getD (m .ports) n uart.resetState) refl
 
@@ -138,17 +145,21 @@ module _ (k : ℕ) where
   module _
       (own : Device → ℕ → Route)
       (own-there : (d : Device) (offset : ℕ) → isThere k d ≡ true → routes.portExists k (own d offset) ≡ true) where
-    reached-there : (address : ℕ) (found : Found) → foundThere k found ≡ true → routes.portExists k (windowRoute own address found) ≡ true
-    reached-there address (In w) t = own-there (w .device) _ t
-    reached-there address Nowhere t = refl
+    window-there :
+        (address size : ℕ) (found : Found) → foundThere k found ≡ true →
+        routes.portExists k (windowRoute own address size found) ≡ true
+    window-there address size Nowhere t = refl
+    window-there address size (In w) t =
+        let n = windowNumber address size w in
+        chosen (λ b (r : Route). routes.portExists k r ≡ true) (eqb n notRefused) (own (w .device) (address - w .base))
+        (Refused n) (own-there (w .device) (address - w .base) t) refl
 
     accessed-there :
         (address size : ℕ) (ws : List Window) → allThere k ws ≡ true →
         routes.portExists k (accessRoute own address size (windowAt address ws)) ≡ true
     accessed-there address size ws t =
-        let n = accessNumber address size (windowAt address ws) in
-        chosen (λ b (r : Route). routes.portExists k r ≡ true) (eqb n notRefused) (windowRoute own address (windowAt address ws))
-        (Refused n) (reached-there address (windowAt address ws) (found-there k address ws t)) refl
+        chosen (λ b (r : Route). routes.portExists k r ≡ true) (isSize size) (windowRoute own address size (windowAt address ws))
+        (Refused badSize) (window-there address size (windowAt address ws) (found-there k address ws t)) refl
 
 route-there :
     (b : Board) (c : Call) → allThere (b .ports) (b .windows) ≡ true → routes.portExists (b .ports) (route b c) ≡ true

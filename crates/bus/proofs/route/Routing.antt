@@ -1,11 +1,14 @@
 -- The route of a call, from the code's tests. Assumes nothing.
 use Prim.Native.Nat.{ℕ, _-_}
-use mathlib.Core.Path.{_≡_, refl, sym}
-use borrow.Author.Tests.{eq-eqb, ne-eqb}
+use mathlib.Core.Path.{_≡_, refl, sym, _∙_}
+use mathlib.Core.Bool.{Bool, true, false, not, _||_, or-false}
+use lib.Dec.{eqb}
+use borrow.Author.Tests.{eqb-true, eq-eqb, ne-eqb, not-true, not-false}
 use Rattle.devices.specs.Refusal.{notRefused}
 use Rattle.devices.specs.declared.apbuart.Call.the-variants as port
-use Rattle.bus.specs.Refusal.{badSize, notAWord}
-use Rattle.bus.specs.Private.{accessNumber, placeNumber, readRoute, writeRoute, windowRoute, accessRoute}
+use Rattle.bus.specs.Refusal.{badSize, noWindow, notAWord}
+use Rattle.bus.specs.Call.{isSize}
+use Rattle.bus.specs.Private.{windowNumber, placeNumber, readRoute, writeRoute, accessRoute}
 use Rattle.bus.specs.declared.board.Window.{Window}
 use Rattle.bus.specs.declared.board.Device.{Device}
 use Rattle.bus.specs.declared.board.Device.the-variants as device
@@ -14,21 +17,21 @@ use Rattle.bus.specs.declared.board.Found.the-variants.{In, Nowhere}
 use Rattle.bus.specs.declared.route.Route.{Route}
 use Rattle.bus.specs.declared.route.Route.the-variants.{Refused, Port, ReadUnit, WriteUnit}
 
--- the number of an access, by its size
-module _ (r address size : ℕ) (found : Found) where
-  pub sized-4 : size ≡ 4 → r ≡ placeNumber address 4 notRefused found → r ≡ accessNumber address size found
+-- the number of an access in a window, by its size
+module _ (r address size : ℕ) (w : Window) where
+  pub sized-4 : size ≡ 4 → r ≡ placeNumber address 4 notRefused w → r ≡ windowNumber address size w
   sized-4 e f = rw e f
 
-  pub sized-2 : size ≡ 2 → r ≡ placeNumber address 2 notAWord found → r ≡ accessNumber address size found
+  pub sized-2 : size ≡ 2 → r ≡ placeNumber address 2 notAWord w → r ≡ windowNumber address size w
   sized-2 e f = rw e f
 
-  pub sized-1 : size ≡ 1 → r ≡ placeNumber address 1 notAWord found → r ≡ accessNumber address size found
-  sized-1 e f = rw e f
-
-pub not-sized :
-    (address size : ℕ) (found : Found) → (size ≡ 4 → ⊥) → (size ≡ 2 → ⊥) → (size ≡ 1 → ⊥) →
-    badSize ≡ accessNumber address size found
-not-sized address size found four two one = rw (ne-eqb size 4 four, ne-eqb size 2 two, ne-eqb size 1 one) refl
+  pub sized-1 :
+      isSize size ≡ true → (size ≡ 4 → ⊥) → (size ≡ 2 → ⊥) → r ≡ placeNumber address 1 notAWord w →
+      r ≡ windowNumber address size w
+  sized-1 sized four two f =
+      let narrow : (eqb size 1 || false || false) ≡ true = rw (ne-eqb size 2 two, ne-eqb size 4 four) at sized in
+      let one : size ≡ 1 = eqb-true size 1 (sym (or-false (eqb size 1)) ∙ sym (or-false (eqb size 1 || false)) ∙ narrow) in
+      rw one f
 
 -- a device's own call
 module _ (d : Device) (offset : ℕ) where
@@ -44,25 +47,28 @@ module _ (d : Device) (offset : ℕ) where
   pub writes-unit : (value : ℕ) → d ≡ device.TimerUnit → WriteUnit offset value ≡ writeRoute value d offset
   writes-unit value e = rw e refl
 
--- an access, by its number and its window
-module _
-    (own : Device → ℕ → Route) (address size n : ℕ) (f g : Found) (e : f ≡ g) (given : n ≡ accessNumber address size f) where
-  pub access-refused : (n ≡ notRefused → ⊥) → Refused n ≡ accessRoute own address size g
-  access-refused differs = rw (← e, ← given, ne-eqb n notRefused differs) refl
+-- an access, by the code's tests
+module _ (own : Device → ℕ → Route) (address size : ℕ) (b : Bool) (e : b ≡ isSize size) where
+  pub access-bad-size : (found : Found) → not b ≡ true → Refused badSize ≡ accessRoute own address size found
+  access-bad-size found t = rw (← e, not-true b t) refl
 
-  module _ (z : n ≡ notRefused) where
-    pub access-in :
-        (w : Window) (o : ℕ) (r : Route) → f ≡ In w → o ≡ address - w .base → r ≡ own (w .device) o →
-        r ≡ accessRoute own address size g
-    access-in w o r h k l =
-        let there : windowRoute own address f ≡ r = rw (h, ← k) (sym l) in
-        rw (← e, ← given, eq-eqb n notRefused z) (sym there)
+  module _ (t : not b ≡ false) (f g : Found) (h : f ≡ g) where
+    pub access-nowhere : f ≡ Nowhere → Refused noWindow ≡ accessRoute own address size g
+    access-nowhere z = rw (← e, not-false b t, ← h, z) refl
 
-    pub access-none : f ≡ Nowhere → Refused notRefused ≡ accessRoute own address size g
-    access-none h =
-        let there : windowRoute own address f ≡ Refused notRefused = rw h refl in
-        rw (← e, ← given, eq-eqb n notRefused z) (sym there)
+    module _ (w : Window) (z : f ≡ In w) (n : ℕ) (k : n ≡ windowNumber address size w) where
+      pub access-refused : (n ≡ notRefused → ⊥) → Refused n ≡ accessRoute own address size g
+      access-refused differs = rw (← e, not-false b t, ← h, z, ← k, ne-eqb n notRefused differs) refl
 
-pub ruleset sizing = (sized-4, sized-2, sized-1, not-sized)
+      pub access-in :
+          (o : ℕ) (r : Route) → n ≡ notRefused → o ≡ address - w .base → r ≡ own (w .device) o →
+          r ≡ accessRoute own address size g
+      access-in o r y p q = rw (← e, not-false b t, ← h, z, ← k, eq-eqb n notRefused y, ← p) q
 
-pub ruleset routing = (reads-port, reads-unit, writes-port, writes-unit, access-refused, access-in, access-none)
+-- the size that passed the test for 1
+pub is-sized : (b : Bool) (size : ℕ) → b ≡ isSize size → not b ≡ false → isSize size ≡ true
+is-sized b size e t = sym e ∙ not-false b t
+
+pub ruleset sizing = (sized-4, sized-2, sized-1)
+
+pub ruleset routing = (reads-port, reads-unit, writes-port, writes-unit, access-bad-size, access-nowhere, access-refused, access-in)
