@@ -83,7 +83,7 @@ fn run_records(machine: Machine, script: &[u8], log: &mut [u8], count: usize) ->
 
 // Every call on a well-formed machine leaves one, so the test for 9 is once a run. The machine is a local of this loop, and
 // each route is carried out here: only the device that changed is stored, and the machine is not moved. (`Machine::carry_out`
-// has the same arms, by value.) The count goes up before the arms part, so that each has its own way to the next turn.
+// has the same arms, by value.)
 fn play(machine: Machine, script: &[u8], log: &mut [u8], count: usize) -> Machine
     requires { ⌜ scripts.recordLength * count < length (now script) + scripts.recordLength ⌝ }
     requires { ⌜ logs.entryLength * count ≤ length (now log) ⌝ }
@@ -95,6 +95,7 @@ fn play(machine: Machine, script: &[u8], log: &mut [u8], count: usize) -> Machin
     while i < count {
         let at = entry::LENGTH * i;
         let route = route_at(script, i);
+        // Here, and not behind the match: the compiler then gives each arm a jump of its own to the loop's test.
         i += 1;
         match route {
             Route::Refused(number) => entry::refused(log, at, number, machine),

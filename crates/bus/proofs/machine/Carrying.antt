@@ -1,5 +1,5 @@
 -- A route carried out on a machine by value, and a call. Assumes nothing.
-use mathlib.Core.Path.{_≡_, refl, sym, ap, _∙_}
+use mathlib.Core.Path.{_≡_, refl, sym, _∙_}
 use mathlib.Core.Bool.{Bool, true, false}
 use Rattle.devices.specs.Refusal.{illFormed}
 use Rattle.bus.specs.Board.{gr712rc}
