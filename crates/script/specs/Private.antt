@@ -3,6 +3,7 @@ use Prim.Native.Nat.{ℕ}
 use mathlib.Core.Path.{_≡_}
 use mathlib.Core.Bool.{Bool, cond}
 use mathlib.Core.List.{List, [], _∷_, _++_, reverse}
+use lib.ListN.{getD}
 use Rattle.bus.specs.View.{machineOf}
 use Rattle.bus.specs.declared.machine.Machine.{Machine}
 use Rattle.script.specs.Number.{number, encoded}
@@ -28,10 +29,9 @@ abbrev pub firstLong : (refusal : ℕ) (emitted : Bool) (byte levels value : ℕ
 firstLong refusal emitted byte levels value =
     encoded 1 refusal ++ encoded 1 (cond emitted 1 0) ++ encoded 1 byte ++ encoded 1 levels ++ encoded 4 value
 
--- a log record of a call in which no time passed
-abbrev pub untimedEntry : (refusal : ℕ) (emitted : Bool) (byte levels value : ℕ) → List ℕ
-untimedEntry refusal emitted byte levels value =
-    firstLong refusal emitted byte levels value ++ longs (0 ∷ 0 ∷ 0 ∷ 0 ∷ 0 ∷ [])
+-- the six numbers of a log record
+abbrev pub sixLongs : (first cycles : ℕ) (pulses : List ℕ) → List ℕ
+sixLongs first cycles pulses = first ∷ cycles ∷ getD pulses 0 0 ∷ getD pulses 1 0 ∷ getD pulses 2 0 ∷ getD pulses 3 0 ∷ []
 
 -- The machine that some records leave, and the log that they are written to.
 pub record Played (d : Ran) (m : Machine) (bytes : List ℕ) : Type 0 where

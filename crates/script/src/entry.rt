@@ -28,7 +28,8 @@ pub(crate) fn refused(log: &mut [u8], at: usize, refusal: u8, machine: Machine)
     requires { ⌜ at + logs.entryLength ≤ length (now log) ⌝ }
     ensures { λ r. ⌜ now (log .exit) ≡ wrote (now (log .entry)) at (logs.entry (bus.refused refusal (machineOf machine))) ⌝ }
 {
-    put(log, at, refusal, false, 0, machine.levels(), 0);
+    let first = first_long(refusal, false, 0, machine.levels(), 0);
+    put(log, at, first, 0, [0; 4]);
 }
 
 // An access of the timer unit, with the value that it read or 0, or a reset.
@@ -36,15 +37,8 @@ pub(crate) fn accepted(log: &mut [u8], at: usize, value: u32, machine: Machine)
     requires { ⌜ at + logs.entryLength ≤ length (now log) ⌝ }
     ensures { λ r. ⌜ now (log .exit) ≡ wrote (now (log .entry)) at (logs.entry (bus.accepted value (machineOf machine))) ⌝ }
 {
-    put(
-        log,
-        at,
-        refusal::NOT_REFUSED,
-        false,
-        0,
-        machine.levels(),
-        value,
-    );
+    let first = first_long(refusal::NOT_REFUSED, false, 0, machine.levels(), value);
+    put(log, at, first, 0, [0; 4]);
 }
 
 // A port's own answer, with its number.
@@ -52,15 +46,14 @@ pub(crate) fn of_port(log: &mut [u8], at: usize, answer: apbuart::Answer, machin
     requires { ⌜ at + logs.entryLength ≤ length (now log) ⌝ }
     ensures { λ r. ⌜ now (log .exit) ≡ wrote (now (log .entry)) at (logs.entry (routes.portAnswer (uart.answerOf answer) (machineOf machine))) ⌝ }
 {
-    put(
-        log,
-        at,
+    let first = first_long(
         answer.refusal,
         answer.emitted,
         answer.byte,
         machine.levels(),
         answer.value,
     );
+    put(log, at, first, 0, [0; 4]);
 }
 
 // A span of time that the timer unit passed.
@@ -70,24 +63,16 @@ pub(crate) fn of_span(log: &mut [u8], at: usize, elapsed: Elapsed, machine: Mach
 {
     let first = first_long(refusal::NOT_REFUSED, false, 0, machine.levels(), 0);
     let pulses = elapsed.pulses;
-    let longs = [
-        first,
-        elapsed.cycles,
-        pulses[0],
-        pulses[1],
-        pulses[2],
-        pulses[3],
-    ];
-    put_longs(log, at, longs);
+    put(log, at, first, elapsed.cycles, pulses);
 }
 
-// The record of a call in which no time passed.
-fn put(log: &mut [u8], at: usize, refusal: u8, emitted: bool, byte: u8, levels: u8, value: u32)
+// The six numbers of a record.
+fn put(log: &mut [u8], at: usize, first: u64, cycles: u64, pulses: [u64; 4])
     requires { ⌜ at + logs.entryLength ≤ length (now log) ⌝ }
-    ensures { λ r. ⌜ now (log .exit) ≡ wrote (now (log .entry)) at (private.untimedEntry refusal emitted byte levels value) ⌝ }
+    ensures { λ r. ⌜ now (log .exit) ≡ wrote (now (log .entry)) at (private.longs (private.sixLongs first cycles pulses)) ⌝ }
 {
-    let first = first_long(refusal, emitted, byte, levels, value);
-    put_longs(log, at, [first, 0, 0, 0, 0, 0]);
+    let longs = [first, cycles, pulses[0], pulses[1], pulses[2], pulses[3]];
+    put_longs(log, at, longs);
 }
 
 // The refusal number, the emitted byte, the line levels and the value read, as one number.

@@ -1,22 +1,19 @@
 -- A log record as six numbers of 8 bytes. Assumes nothing.
 use Prim.Native.Nat.{ℕ, _+_, _*_, _^_, _≤_, _<_}
 use mathlib.Core.Path.{_≡_, refl, ap, _∙_}
-use mathlib.Core.Bool.{Bool, false, cond}
+use mathlib.Core.Bool.{Bool, cond}
 use mathlib.Core.List.{List, [], _∷_, _++_, append-assoc, append-nil}
 use native.Mathlib.Omega.{arith}
 use native.Mathlib.Numerals.{add-one}
 use lib.ListN.{length, take, getD, length-append}
 use lib.Seq.{take-suc, take-all, length-take-le}
-use Rattle.devices.specs.Refusal.{notRefused}
-use Rattle.devices.specs.declared.gptimer.Elapsed.{Elapsed}
 use Rattle.bus.specs.Machine as bus
 use Rattle.bus.specs.Machine.{Machine}
-use Rattle.bus.specs.Route.{spanAnswer}
 use Rattle.script.specs.Number.{encoded}
 use Rattle.script.specs.Number.Laws.{encoded-join, length-encoded}
 use Rattle.script.specs.Buffer.{wrote}
 use Rattle.script.specs.Log.{entry}
-use Rattle.script.specs.Private.{longs, firstLong, untimedEntry}
+use Rattle.script.specs.Private.{longs, firstLong, sixLongs}
 use Rattle.script.proofs.Writing.{wrote-join}
 
 -- The first 8 bytes as one number.
@@ -64,26 +61,11 @@ module _ (l₀ l : List ℕ) (at i : ℕ) (ns : List ℕ) (so-far : l ≡ wrote 
   all-longs h = so-far ∙ rw (take-all i ns h) refl
 
 -- A whole record, with the levels of the machine after the call.
-module _ (l l′ : List ℕ) (at levels : ℕ) (m : Machine) (e : levels ≡ bus.levels m) where
-  pub untimed-entry :
-      (refusal : ℕ) (emitted : Bool) (byte value : ℕ) → l′ ≡ wrote l at (untimedEntry refusal emitted byte levels value) →
-      l′ ≡ wrote l at (entry (bus.answered refusal emitted byte value 0 bus.noPulses m))
-  unfolding entry
-  untimed-entry refusal emitted byte value f = f ∙ ap (wrote l at) (rw e (simp (append-assoc, append-nil)))
-
-  pub span-entry :
-      (first : ℕ) (x : Elapsed) → encoded 8 first ≡ firstLong notRefused false 0 levels 0 →
-      l′ ≡
-      wrote l at
-      (longs
-      (first ∷ x .cycles ∷ getD (x .pulses) 0 0 ∷ getD (x .pulses) 1 0 ∷ getD (x .pulses) 2 0 ∷ getD (x .pulses) 3 0 ∷ [])) →
-      l′ ≡ wrote l at (entry (spanAnswer x m))
-  unfolding entry
-  span-entry first x f g = g ∙ ap (wrote l at) (rw (f, e) (simp (append-assoc, append-nil)))
-
--- One in which no time passed.
-pub first-only :
-    (l l′ : List ℕ) (at first refusal : ℕ) (emitted : Bool) (byte levels value : ℕ) →
-    encoded 8 first ≡ firstLong refusal emitted byte levels value →
-    l′ ≡ wrote l at (longs (first ∷ 0 ∷ 0 ∷ 0 ∷ 0 ∷ 0 ∷ [])) → l′ ≡ wrote l at (untimedEntry refusal emitted byte levels value)
-first-only l l′ at first refusal emitted byte levels value e f = rw (← e) f
+pub whole-entry :
+    (l l′ : List ℕ) (at first levels refusal : ℕ) (emitted : Bool) (byte value cycles : ℕ) (pulses : List ℕ) (m : Machine) →
+    levels ≡ bus.levels m → encoded 8 first ≡ firstLong refusal emitted byte levels value →
+    l′ ≡ wrote l at (longs (sixLongs first cycles pulses)) →
+    l′ ≡ wrote l at (entry (bus.answered refusal emitted byte value cycles pulses m))
+unfolding entry
+whole-entry l l′ at first levels refusal emitted byte value cycles pulses m e f g =
+    g ∙ ap (wrote l at) (rw (f, e) (simp (append-assoc, append-nil)))

@@ -1,11 +1,11 @@
--- A record is six numbers. Assumes nothing.
+-- With the levels of the machine. Assumes nothing.
 use borrow.Author.Needs.{needs}
-use Rattle.script.proofs.entry.Longs.{span-entry}
+use Rattle.script.proofs.entry.Longs.{whole-entry}
 use Rattle.script.proofs.entry.of_span.Statement.{statement}
 use Rattle.script.proofs.entry.of_span.Tie as tie
 
 pub of-span-spec : {M : Type 1} → statement M
 of-span-spec =
     tie.close
-    (tie.spec (λ c κs. search needs) (λ c κs. search needs) (λ c. search needs) (λ c. search needs) (λ c. search needs)
-    (λ c. search needs) (λ c κs. search needs) (λ c. search needs) (λ c. search span-entry))
+    (tie.spec (λ c κs. search needs) (λ c κs. search needs) (λ c κs. search needs) (λ c. search needs)
+    (λ c. search whole-entry))
