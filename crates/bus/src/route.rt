@@ -19,9 +19,9 @@ use devices::gptimer::Span;
 pub enum Route {
     // The call is refused with this number.
     Refused(u8),
-    // It is port n's own call,
+    // Port n answers its own call.
     Port { n: usize, call: apbuart::Call },
-    // or an access of the timer unit.
+    // The timer unit answers an access.
     ReadUnit { offset: u32 },
     WriteUnit { offset: u32, value: u32 },
     // Time passes.

@@ -1,10 +1,10 @@
 -- Laws of tests: of `cond`, `&&` and `||`. `search cases` closes a return of a function from the tests that led to it.
 -- Assumes nothing.
 use Prim.Native.Nat.{ℕ, _≤_, _<_}
-use mathlib.Core.Path.{_≡_, refl}
-use mathlib.Core.Bool.{Bool, true, false, cond, _&&_, _||_}
+use mathlib.Core.Path.{_≡_, refl, sym, _∙_}
+use mathlib.Core.Bool.{Bool, true, false, cond, not, _&&_, _||_}
 use lib.Dec.{ltb}
-use borrow.Author.Tests.{le-ltb, lt-ltb, le-leb, lt-leb, eq-eqb, ne-eqb}
+use borrow.Author.Tests.{le-ltb, lt-ltb, le-leb, lt-leb, eq-eqb, ne-eqb, not-true, not-false}
 
 -- What holds of both of two values holds of the one that a test chooses.
 pub chosen : {A : Type 0} (P : Bool → A → Type 0) (b : Bool) (x y : A) → P true x → P false y → P b (cond b x y)
@@ -48,6 +48,12 @@ or-true r a b x e t f = rw (← e, t) f
 
 pub or-false : (r a b x : Bool) → r ≡ a → r ≡ false → x ≡ b → x ≡ (a || b)
 or-false r a b x e t f = rw (← e, t) f
+
+pub passed : (r a : Bool) → r ≡ a → not r ≡ false → a ≡ true
+passed r a e t = sym e ∙ not-false r t
+
+pub failed : (r a : Bool) → r ≡ a → not r ≡ true → a ≡ false
+failed r a e t = sym e ∙ not-true r t
 
 pub lt-answered : (m n k : ℕ) → m ≡ n → m < k → ltb n k ≡ true
 lt-answered m n k e l = rw (← e) (lt-ltb m k l)

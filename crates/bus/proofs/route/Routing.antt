@@ -1,9 +1,10 @@
 -- The route of a call, from the code's tests. Assumes nothing.
 use Prim.Native.Nat.{ℕ, _-_}
 use mathlib.Core.Path.{_≡_, refl, sym, _∙_}
-use mathlib.Core.Bool.{Bool, true, false, not, _||_, or-false}
+use mathlib.Core.Bool.{true, false, _||_, or-false}
 use lib.Dec.{eqb}
-use borrow.Author.Tests.{eqb-true, eq-eqb, ne-eqb, not-true, not-false}
+use borrow.Author.Tests.{eqb-true, eq-eqb, ne-eqb}
+use Rattle.devices.specs.Cases.{passed, failed}
 use Rattle.devices.specs.Refusal.{notRefused}
 use Rattle.devices.specs.declared.apbuart.Call.the-variants as port
 use Rattle.bus.specs.Refusal.{badSize, noWindow, notAWord}
@@ -48,27 +49,25 @@ module _ (d : Device) (offset : ℕ) where
   writes-unit value e = rw e refl
 
 -- an access, by the code's tests
-module _ (own : Device → ℕ → Route) (address size : ℕ) (b : Bool) (e : b ≡ isSize size) where
-  pub access-bad-size : (found : Found) → not b ≡ true → Refused badSize ≡ accessRoute own address size found
-  access-bad-size found t = rw (← e, not-true b t) refl
+module _ (own : Device → ℕ → Route) (address size : ℕ) where
+  pub access-bad-size : (found : Found) → isSize size ≡ false → Refused badSize ≡ accessRoute own address size found
+  access-bad-size found t = rw t refl
 
-  module _ (t : not b ≡ false) (f g : Found) (h : f ≡ g) where
+  module _ (t : isSize size ≡ true) (f g : Found) (h : f ≡ g) where
     pub access-nowhere : f ≡ Nowhere → Refused noWindow ≡ accessRoute own address size g
-    access-nowhere z = rw (← e, not-false b t, ← h, z) refl
+    access-nowhere z = rw (t, ← h, z) refl
 
     module _ (w : Window) (z : f ≡ In w) (n : ℕ) (k : n ≡ windowNumber address size w) where
       pub access-refused : (n ≡ notRefused → ⊥) → Refused n ≡ accessRoute own address size g
-      access-refused differs = rw (← e, not-false b t, ← h, z, ← k, ne-eqb n notRefused differs) refl
+      access-refused differs = rw (t, ← h, z, ← k, ne-eqb n notRefused differs) refl
 
       pub access-in :
           (o : ℕ) (r : Route) → n ≡ notRefused → o ≡ address - w .base → r ≡ own (w .device) o →
           r ≡ accessRoute own address size g
-      access-in o r y p q = rw (← e, not-false b t, ← h, z, ← k, eq-eqb n notRefused y, ← p) q
-
--- the size that passed the test for 1
-pub is-sized : (b : Bool) (size : ℕ) → b ≡ isSize size → not b ≡ false → isSize size ≡ true
-is-sized b size e t = sym e ∙ not-false b t
+      access-in o r y p q = rw (t, ← h, z, ← k, eq-eqb n notRefused y, ← p) q
 
 pub ruleset sizing = (sized-4, sized-2, sized-1)
 
-pub ruleset routing = (reads-port, reads-unit, writes-port, writes-unit, access-bad-size, access-nowhere, access-refused, access-in)
+pub ruleset accessing = (access-bad-size, access-nowhere, access-refused, access-in, passed, failed)
+
+pub ruleset routing = (reads-port, reads-unit, writes-port, writes-unit)

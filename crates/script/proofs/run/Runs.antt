@@ -6,7 +6,8 @@ use mathlib.Core.List.{List}
 use native.Mathlib.Omega.{arith}
 use native.Mathlib.Nat.{div-add-mod'}
 use lib.Dec.{eqb}
-use borrow.Author.Tests.{not-true, not-false, eq-eqb, ne-eqb}
+use borrow.Author.Tests.{eq-eqb, ne-eqb}
+use Rattle.devices.specs.Cases.{passed, failed}
 use Rattle.devices.specs.Refusal.{notRefused, illFormed}
 use Rattle.bus.specs.Machine as bus
 use Rattle.bus.specs.SlowRun.Laws.{length-answers}
@@ -22,18 +23,13 @@ use Rattle.script.specs.View.{Conforms}
 use Rattle.script.specs.Private.{Played}
 use Rattle.script.specs.declared.run.Ran.{Ran}
 
--- A machine that passed the test for 9.
-pub tested-well :
-    (m : Machine) (b : Bool) → b ≡ bus.wellFormed (machineOf m) → not b ≡ false → bus.wellFormed (machineOf m) ≡ true
-tested-well m b e t = sym e ∙ not-false b t
-
 -- By the test for 9: records that are done, and a run that is refused.
 module _ (m : Machine) (b : Bool) (e : b ≡ bus.wellFormed (machineOf m)) (script log bytes : List ℕ) (n : ℕ) (r : Ran) where
   pub records-done :
       not b ≡ false → r .refusal ≡ notRefused → r .done ≡ n →
       Played (run.ran n script log (machineOf m)) (r .machine) bytes → Conforms m (run.runFirst n script log) r bytes
   records-done t number done played =
-      let w : bus.wellFormed (machineOf m) ≡ true = tested-well m b e t in
+      let w : bus.wellFormed (machineOf m) ≡ true = passed b _ e t in
       record {
         number = rw w number;
         done = rw w done;
@@ -47,7 +43,7 @@ module _ (m : Machine) (b : Bool) (e : b ≡ bus.wellFormed (machineOf m)) (scri
       not b ≡ true → r .refusal ≡ illFormed → r .done ≡ 0 → r .machine ≡ m → bytes ≡ log →
       Conforms m (run.runFirst n script log) r bytes
   records-refused t number done same untouched =
-      let ill : bus.wellFormed (machineOf m) ≡ false = sym e ∙ not-true b t in
+      let ill : bus.wellFormed (machineOf m) ≡ false = failed b _ e t in
       record {
         number = rw ill number;
         done = rw ill done;

@@ -1,12 +1,13 @@
 -- By the tests for 1, 2 and 3 to 5. Assumes nothing.
 use borrow.Author.Needs.{needs}
-use Rattle.bus.proofs.route.Routing.{is-sized, routing}
+use Rattle.devices.specs.Cases.{passed}
+use Rattle.bus.proofs.route.Routing.{accessing}
 use Rattle.bus.proofs.route.Route.read.Statement.{statement}
 use Rattle.bus.proofs.route.Route.read.Tie as tie
 
 pub read-spec : {M : Type 1} → statement M
 read-spec =
     tie.close
-    (tie.spec (λ c κs. search needs) (λ c. search routing) (λ c κs. search needs) (λ c. search needs)
-    (λ c. search needs) (λ c. search routing) (λ c κs. search is-sized) (λ c. search routing) (λ c κs. search needs)
-    (λ c κs. search needs) (λ c. search routing))
+    (tie.spec (λ c κs. search needs) (λ c. search accessing) (λ c κs. search needs) (λ c. search needs)
+    (λ c. search needs) (λ c. search accessing) (λ c κs. search passed) (λ c. search accessing) (λ c κs. search needs)
+    (λ c κs. search needs) (λ c. search accessing))
