@@ -1,10 +1,9 @@
 -- Parts of the buffers. Assumes nothing.
 use Prim.Native.Nat.{ℕ, _+_, _-_, _*_, _≤_}
-use mathlib.Core.Path.{_≡_, sym, _∙_}
+use mathlib.Core.Path.{_≡_, _∙_}
 use mathlib.Core.List.{List}
 use native.Mathlib.Omega.{arith}
-use lib.ListN.{length, take}
-use lib.Seq.{length-take-le}
+use lib.ListN.{length}
 use mir.Syntax.{w64}
 use mir.Val.{Fits}
 use borrow.Rule.Slice.PartMut.{midOf, putMid, mid-len, same-len-mid}
@@ -15,9 +14,6 @@ use Rattle.script.specs.Pieces.{logLength}
 use Rattle.script.specs.View.{Conforms}
 use Rattle.script.specs.View.Laws.{piece-room}
 use Rattle.script.specs.declared.run.Ran.{Ran}
-
-pub counted : (n : ℕ) (l : List ℕ) → n ≤ length l → n ≡ length (take n l)
-counted n l h = sym (length-take-le n l h)
 
 -- The length of the log buffer: that of GATHERED pieces' logs.
 abbrev pub bufferLength : ℕ

@@ -1,10 +1,8 @@
 // The program: it runs the script that it reads from standard input on a machine at reset, and writes the log to standard
 // output. It only reads, calls the library `script`, and writes. Where a read fails, it says so on standard error, writes the
 // log of the pieces before, and ends: no record is made up for what was not read. Where a write fails, it says so and ends.
-ghost use Prim.Native.Nat.{_≤_};
-ghost use lib.ListN.{length};
+ghost use Rattle.io.specs.Counts.{Counts};
 use bus::machine::Machine;
-use libc::STDERR_FILENO;
 use libc::STDIN_FILENO;
 use libc::STDOUT_FILENO;
 use script::entry;
@@ -13,6 +11,7 @@ use script::format::Format;
 use script::format::Verdict;
 use script::record;
 use script::run::run_piece;
+use stream::Filled;
 
 // The input is read in pieces, each of a whole number of records but the last.
 const PIECE: usize = 4096;
@@ -25,13 +24,6 @@ const GATHERED: usize = 16;
 
 // The log buffer.
 const LOG_BUFFER: usize = GATHERED * LOG_PIECE;
-
-// What came of filling a buffer from standard input.
-struct Input {
-    // How many bytes came: fewer than the buffer holds where the input ended, or where a read failed.
-    count: usize,
-    failed: bool,
-}
 
 fn main() {
     let mut header = [0; Format::HEADER];
@@ -55,7 +47,7 @@ fn main() {
 
 // Runs what follows the header. The log is written out once it has no room for a further piece's, and at the end, whether the
 // input ended or a read failed. A proved loop has to end, and nothing says that the input does: the loop counts its turns down,
-// from a number that no run uses up. So do the two below.
+// from a number that no run uses up.
 fn run() {
     let mut script = [0; PIECE];
     let mut log = [0; LOG_BUFFER];
@@ -85,72 +77,12 @@ fn run() {
     emit(&log[..end]);
 }
 
-// Reads until the buffer is full or the input ends. A read may bring fewer bytes than were asked for, and one that a signal
-// interrupts is made again.
-fn fill(buffer: &mut [u8]) -> Input
-    ensures { λ r. ⌜ r .count ≤ length (now (buffer .exit)) ⌝ }
+fn fill(buffer: &mut [u8]) -> Filled
+    ensures { λ r. ⌜ Counts (r .count) (now (buffer .exit)) ⌝ }
 {
-    let mut count = 0;
-    let mut turns = u64::MAX;
-    while 0 < turns {
-        turns -= 1;
-        if buffer.len() <= count {
-            return Input {
-                count,
-                failed: false,
-            };
-        }
-        let got = libc::read(STDIN_FILENO, &mut buffer[count..]);
-        if got == 0 {
-            return Input {
-                count,
-                failed: false,
-            };
-        }
-        if got < 0 {
-            if os::errno() != libc::EINTR {
-                os::fail(b"standard input");
-                return Input {
-                    count,
-                    failed: true,
-                };
-            }
-        } else {
-            count += io::count(got, &buffer[count..]);
-        }
-    }
-    Input {
-        count,
-        failed: true,
-    }
+    stream::fill(STDIN_FILENO, b"standard input", buffer)
 }
 
-// Writes all of the bytes, and answers whether it could. A write may take fewer than it was given, and one that a signal
-// interrupts is made again.
 fn emit(bytes: &[u8]) -> bool {
-    let mut count = 0;
-    let mut turns = u64::MAX;
-    while 0 < turns {
-        turns -= 1;
-        if bytes.len() <= count {
-            return true;
-        }
-        let put = libc::write(STDOUT_FILENO, &bytes[count..]);
-        if put == 0 {
-            io::write_all(
-                STDERR_FILENO,
-                b"standard output: nothing could be written\n",
-            );
-            return false;
-        }
-        if put < 0 {
-            if os::errno() != libc::EINTR {
-                os::fail(b"standard output");
-                return false;
-            }
-        } else {
-            count += io::count(put, &bytes[count..]);
-        }
-    }
-    false
+    stream::emit(STDOUT_FILENO, b"standard output", bytes)
 }

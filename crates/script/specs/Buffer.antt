@@ -1,4 +1,5 @@
 -- What a call writes into a buffer that it is lent: paper 01, "Refusal numbers".
+pub mod Laws
 use Prim.Native.Nat.{ℕ, _+_}
 use mathlib.Core.List.{List, _++_}
 use lib.ListN.{length, take, drop}

@@ -1,7 +1,7 @@
 -- What a script and a log begin with: paper 01, "Script and log". The code's struct says no more than the paper does, so
 -- the definitions are on that struct.
 pub mod Laws
-use Prim.Native.Nat.{ℕ, _+_, _/_, _%_}
+use Prim.Native.Nat.{ℕ}
 use mathlib.Core.Bool.{not, _||_}
 use mathlib.Core.List.{List, [], _∷_, _++_}
 use lib.Dec.{eqb, ltb}
@@ -10,6 +10,7 @@ use Rattle.devices.specs.Refusal.{notRefused}
 use Rattle.bus.specs.Call.{_when_, first}
 use Rattle.script.specs.Number.{number, encoded}
 use Rattle.script.specs.Refusal.{badFile, badVersion}
+use Rattle.script.specs.Text.{text, decimal, newline}
 use Rattle.script.specs.declared.format.Format.{Format}
 use Rattle.script.specs.declared.format.Reason.{Reason}
 use Rattle.script.specs.declared.format.Reason.the-variants.{BadFile, BadVersion}
@@ -47,10 +48,6 @@ abbrev pub verdictNumber : Verdict → ℕ
 verdictNumber Accepted = notRefused
 verdictNumber (Refused reason) = numberOf reason
 
--- "For a bad header it writes only `refused 11` or `refused 12` and a newline": the numbers have two digits.
-abbrev pub digit : ℕ → ℕ
-digit n = 0x30 + n % 10
-
+-- "For a bad header it writes only `refused 11` or `refused 12` and a newline."
 abbrev pub refusalLine : ℕ → List ℕ
-refusalLine number =
-    0x72 ∷ 0x65 ∷ 0x66 ∷ 0x75 ∷ 0x73 ∷ 0x65 ∷ 0x64 ∷ 0x20 ∷ digit (number / 10) ∷ digit number ∷ 0x0A ∷ []
+refusalLine number = text "refused " ++ decimal number ++ newline

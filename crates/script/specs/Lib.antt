@@ -6,6 +6,7 @@ pub mod Theorems
 pub mod Refusal
 pub mod Number
 pub mod Buffer
+pub mod Text
 pub mod Format
 pub mod Script
 pub mod Log

@@ -23,6 +23,66 @@ const LONGS: usize = 6;
 // A record's length.
 pub const LENGTH: usize = 48;
 
+// A field of a record, by its name.
+pub enum Field {
+    Number,
+    Emitted,
+    Levels,
+    Value,
+    Cycles,
+    // The pulses of a timer, from 1 on.
+    Pulses(u8),
+}
+
+// A field, and how many bytes it has.
+pub struct Part {
+    pub field: Field,
+    pub width: usize,
+}
+
+// How many fields a record has.
+pub const FIELDS: usize = 9;
+
+// The fields of a record, in the order of their bytes.
+pub const LAYOUT: [Part; FIELDS] = [
+    Part {
+        field: Field::Number,
+        width: 1,
+    },
+    Part {
+        field: Field::Emitted,
+        width: 2,
+    },
+    Part {
+        field: Field::Levels,
+        width: 1,
+    },
+    Part {
+        field: Field::Value,
+        width: 4,
+    },
+    Part {
+        field: Field::Cycles,
+        width: 8,
+    },
+    Part {
+        field: Field::Pulses(1),
+        width: 8,
+    },
+    Part {
+        field: Field::Pulses(2),
+        width: 8,
+    },
+    Part {
+        field: Field::Pulses(3),
+        width: 8,
+    },
+    Part {
+        field: Field::Pulses(4),
+        width: 8,
+    },
+];
+
 // Each of these puts a log record into the log, from `at` on; `machine` is the machine after the call. A refusal:
 pub(crate) fn refused(log: &mut [u8], at: usize, refusal: u8, machine: Machine)
     requires { ⌜ at + logs.entryLength ≤ length (now log) ⌝ }

@@ -19,7 +19,7 @@ pub enum Verdict {
 }
 
 impl Reason {
-    fn number(self) -> u8
+    pub fn number(self) -> u8
         ensures { λ r. ⌜ r ≡ format.numberOf self ⌝ }
     {
         match self {
@@ -85,6 +85,13 @@ pub fn judge_script(file: &[u8]) -> Verdict
     ensures { λ r. ⌜ format.verdictNumber r ≡ format.refusal format.script (now (file .entry)) ⌝ }
 {
     Format::SCRIPT.judge(file)
+}
+
+// Whether a file is a log, by its first bytes.
+pub fn judge_log(file: &[u8]) -> Verdict
+    ensures { λ r. ⌜ format.verdictNumber r ≡ format.refusal format.log (now (file .entry)) ⌝ }
+{
+    Format::LOG.judge(file)
 }
 
 // What a log begins with.

@@ -1,6 +1,5 @@
 -- The header is a part of its buffer. Assumes nothing.
 use borrow.Author.Needs.{needs}
-use Rattle.apsrun.proofs.Buffers.{counted}
 use Rattle.apsrun.proofs.main.Statement.{statement}
 use Rattle.apsrun.proofs.main.Tie as tie
 
@@ -8,6 +7,6 @@ pub main-spec : {M : Type 1} → statement M
 main-spec =
     tie.close
     (tie.spec (λ c. search needs) (λ c κs. search needs) (λ c. search needs) (λ c. search needs)
-    (λ c. search (counted, needs)) (λ c κs. search needs) (λ c. search needs) (λ c κs. search needs)
+    (λ c. search needs) (λ c κs. search needs) (λ c. search needs) (λ c κs. search needs)
     (λ c. search needs) (λ c κs. search needs) (λ c. search needs) (λ c κs. search needs) (λ c. search needs)
     (λ c κs. search needs) (λ c κs. search needs) (λ c. search needs) (λ c. search needs) (λ c. search needs))

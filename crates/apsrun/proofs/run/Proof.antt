@@ -5,7 +5,8 @@ use mathlib.Core.Path.{_≡_}
 use mathlib.Core.Logic.{⊎-elim}
 use lib.ListN.{length}
 use Rattle.script.specs.Pieces.{pieceLength, logLength}
-use Rattle.apsrun.proofs.Buffers.{bufferLength, counted, back-length, end-before, same-within, logged-fits, end-fits, end-in}
+use Rattle.stream.specs.Counted.{counted}
+use Rattle.apsrun.proofs.Buffers.{bufferLength, back-length, end-before, same-within, logged-fits, end-fits, end-in}
 use Rattle.apsrun.proofs.run.Statement.{statement}
 use Rattle.apsrun.proofs.run.Tie as tie
 
@@ -27,7 +28,7 @@ pub run-spec : {M : Type 1} → statement M
 run-spec =
     tie.close
     (tie.spec Inv-loop μ-loop (λ c κs. search needs) (λ c. search needs) (λ c. search needs) (λ c. search needs)
-    (λ c κs. search needs) (λ c. search needs) (λ c. search (counted, needs)) (λ c. search needs) (λ c. search needs)
+    (λ c κs. search needs) (λ c. search needs) (λ c. search needs) (λ c. search needs) (λ c. search needs)
     (λ c. search needs) (λ c κs. search needs) (λ c. search (logged-fits, needs)) (λ c. search (end-fits, needs))
     (λ c. search needs) (λ c. search (end-in, needs)) (λ c. search (counted, end-in, needs)) (λ c κs. search needs)
     (λ c. search needs) (λ c. search needs) (λ c. (search needs, search (back-length, needs), search needs))

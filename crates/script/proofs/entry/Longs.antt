@@ -14,7 +14,7 @@ use Rattle.script.specs.Number.Laws.{encoded-join, length-encoded}
 use Rattle.script.specs.Buffer.{wrote}
 use Rattle.script.specs.Log.{entry}
 use Rattle.script.specs.Private.{longs, firstLong, sixLongs}
-use Rattle.script.proofs.Writing.{wrote-join}
+use Rattle.script.specs.Buffer.Laws.{wrote-join}
 
 -- The first 8 bytes as one number.
 pub first-joined :

@@ -1,8 +1,8 @@
 -- The refusal of a file, from the code's tests. Assumes nothing.
-use Prim.Native.Nat.{ℕ, _≤_, _<_}
+use Prim.Native.Nat.{ℕ, _/_, _≤_, _<_}
 use mathlib.Core.Path.{_≡_, refl, _∙_}
 use mathlib.Core.Bool.{not, cond}
-use mathlib.Core.List.{List}
+use mathlib.Core.List.{List, _∷_, _++_}
 use lib.Dec.{eqb}
 use lib.ListN.{length}
 use borrow.Author.Tests.{le-ltb, lt-ltb, eq-eqb, ne-eqb}
@@ -10,8 +10,11 @@ use Rattle.devices.specs.Cases.{chosen, cases}
 use Rattle.devices.specs.Refusal.{notRefused}
 use Rattle.script.specs.Number.{number}
 use Rattle.script.specs.Refusal.{badFile, badVersion}
-use Rattle.script.specs.Format.{headerLength, refusal}
+use Rattle.script.specs.Text.{text, newline, digit, decimalWithin}
+use Rattle.script.specs.Format.{headerLength, refusal, numberOf, refusalLine}
 use Rattle.script.specs.declared.format.Format.{Format}
+use Rattle.script.specs.declared.format.Reason.{Reason}
+use Rattle.script.specs.declared.format.Reason.the-variants.{BadFile, BadVersion}
 
 module _ (f : Format) (file : List ℕ) where
   pub too-short : length file < headerLength → badFile ≡ refusal f file
@@ -28,5 +31,18 @@ module _ (f : Format) (file : List ℕ) where
           rw (le-ltb (length file) headerLength long, ← e, eq-eqb m (f .mark) h, ← g)
           (last ∙
           chosen (λ b x. x ≡ cond (not b) badVersion notRefused) (eqb n (f .version)) notRefused badVersion refl refl)
+
+-- The refusal's line: each reason's number has two digits.
+line-of :
+    (reason : Reason) →
+    text "refused " ++ (digit (numberOf reason / 10) ∷ digit (numberOf reason) ∷ newline) ≡ refusalLine (numberOf reason)
+unfolding decimalWithin
+line-of BadFile = refl
+line-of BadVersion = refl
+
+pub two-digits :
+    (n : ℕ) (reason : Reason) → n ≡ numberOf reason →
+    text "refused " ++ (digit (n / 10) ∷ digit n ∷ newline) ≡ refusalLine (numberOf reason)
+two-digits n reason e = rw e (line-of reason)
 
 pub ruleset judging = (too-short, other-mark, marked, cases)

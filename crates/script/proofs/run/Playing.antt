@@ -28,7 +28,7 @@ use Rattle.script.specs.Log.Laws.{entries-append}
 use Rattle.script.specs.Run.{ran}
 use Rattle.script.specs.Run.Laws.{written-length}
 use Rattle.script.specs.Private.{Played}
-use Rattle.script.proofs.Writing.{wrote-join, none-written}
+use Rattle.script.specs.Buffer.Laws.{wrote-join, none-written}
 
 -- The record at a place: the last one, which may be cut short, and any other.
 module _ (script : List ℕ) (k n : ℕ) where

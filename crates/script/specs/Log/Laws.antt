@@ -2,7 +2,7 @@
 use Prim.Native.Nat.{ℕ, suc, _+_, _*_, _^_, _<_}
 use mathlib.Core.Path.{_≡_, refl, sym, ap, _∙_}
 use mathlib.Core.Bool.{cond}
-use mathlib.Core.List.{List, [], _∷_, _++_, append-assoc}
+use mathlib.Core.List.{List, [], _∷_, _++_, map, append-assoc}
 use native.Mathlib.Omega.{arith}
 use lib.ListN.{length, take, drop, length-append}
 use lib.Seq.{take-at, drop-at, take-take, take-add}
@@ -10,11 +10,39 @@ use Rattle.devices.specs.Cases.{chosen}
 use Rattle.bus.specs.Machine.{Answer, pulsesOf}
 use Rattle.script.specs.Number.{number, encoded}
 use Rattle.script.specs.Number.Laws.{number-encoded}
-use Rattle.script.specs.Log.{entryLength, entry, entries}
+use Rattle.script.specs.Log.{entryLength, entry, layout, entries}
+use Rattle.script.specs.declared.entry.Part.{Part}
+use Rattle.script.specs.declared.entry.Field.{Field}
+use Rattle.script.specs.declared.entry.Field.the-variants.{Number, Emitted, Levels, Value, Cycles, Pulses}
 
 pub length-entry : (a : Answer) → length (entry a) ≡ entryLength
 unfolding encoded entry
 length-entry a = refl
+
+-- Cut by the table, a log record gives the bytes of each field that the table names, and nothing is left.
+abbrev pub fieldOf : Field → Answer → List ℕ
+fieldOf Number a = encoded 1 (a .refusal)
+fieldOf Emitted a = encoded 1 (cond (a .emitted) 1 0) ++ encoded 1 (a .byte)
+fieldOf Levels a = encoded 1 (a .levels)
+fieldOf Value a = encoded 4 (a .value)
+fieldOf Cycles a = encoded 8 (a .cycles)
+fieldOf (Pulses n) a = encoded 8 (pulsesOf n a)
+
+abbrev pub parts : List Part → List ℕ → List (List ℕ)
+parts [] bytes = bytes ∷ []
+parts (p ∷ ps) bytes = take (p .width) bytes ∷ parts ps (drop (p .width) bytes)
+
+-- The number of bytes of some fields.
+abbrev pub widths : List Part → ℕ
+widths [] = 0
+widths (p ∷ ps) = p .width + widths ps
+
+pub layout-length : widths layout ≡ entryLength
+layout-length = refl
+
+pub entry-parts : (a : Answer) → parts layout (entry a) ≡ map (λ (p : Part). fieldOf (p .field) a) layout ++ ([] ∷ [])
+unfolding encoded entry
+entry-parts a = refl
 
 pub length-entries : (rs : List Answer) → length (entries rs) ≡ entryLength * length rs
 length-entries [] = refl

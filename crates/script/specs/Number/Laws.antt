@@ -5,9 +5,9 @@ use mathlib.Core.List.{List, [], _∷_, _++_, append-assoc, append-nil}
 use native.Mathlib.Omega.{arith}
 use native.Mathlib.Nat.{zero-add, add-zero, add-suc, add-assoc, div-add-mod', mul-assoc, pow-suc}
 use native.Mathlib.Nat.{div-lt-iff-lt-mul, add-mul-div-right, add-mul-mod-self-right}
-use lib.ListN.{length, length-append, List·getD-append}
-use lib.Seq.{getD-at}
-use Rattle.script.specs.Number.{number, encoded}
+use lib.ListN.{length, length-append, length-drop, take, drop, List·getD-append}
+use lib.Seq.{getD-at, getD-drop, take-suc}
+use Rattle.script.specs.Number.{byte, number, encoded}
 
 -- A number keeps to its width.
 pub length-encoded : (count n : ℕ) → length (encoded count n) ≡ count
@@ -59,3 +59,22 @@ number-encoded (suc count) n h =
       zero-add count,
       getD-at (encoded count (n / 256)) (n % 256) [] 0 count long,
     ) (div-add-mod' n 256)
+
+-- What is read is encoded as it was.
+pub encoded-number :
+    (at count : ℕ) (bytes : List ℕ) → ((n : ℕ) → byte n bytes < 256) → at + count ≤ length bytes →
+    encoded count (number at count bytes) ≡ take count (drop at bytes)
+unfolding number encoded
+encoded-number at zero bytes b h = refl
+encoded-number at (suc count) bytes b h =
+    let n = number at count bytes in
+    let last = byte (at + count) bytes in
+    let front : (n * 256 + last) / 256 ≡ n = omega (arith, b (at + count)) in
+    let end : (n * 256 + last) % 256 ≡ last = omega (arith, b (at + count)) in
+    rw (
+      front,
+      end,
+      encoded-number at count bytes b (omega arith),
+      take-suc (drop at bytes) count 0 (rw (length-drop at bytes) (omega arith)),
+      getD-drop at bytes count 0,
+    ) refl

@@ -4,7 +4,7 @@ use Prim.Native.Nat.{_-_, _≤_}
 use mathlib.Core.Path.{_≡_, refl}
 use lib.ListN.{length, take}
 use Rattle.script.specs.Buffer.{wrote}
-use Rattle.script.proofs.Writing.{none-written, wrote-next, wrote-all}
+use Rattle.script.specs.Buffer.Laws.{none-written, wrote-next, wrote-all}
 use Rattle.script.proofs.number.put_long.Statement.{statement}
 use Rattle.script.proofs.number.put_long.Tie as tie
 

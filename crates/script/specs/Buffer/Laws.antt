@@ -31,7 +31,7 @@ wrote-join l xs ys i j e h =
     rw (head, tail, length-append, e, append-assoc, append-assoc) refl
 
 -- One byte, and one more.
-wrote-one : (l : List ℕ) (i x : ℕ) → i < length l → set l i x ≡ wrote l i (x ∷ [])
+pub wrote-one : (l : List ℕ) (i x : ℕ) → i < length l → set l i x ≡ wrote l i (x ∷ [])
 unfolding wrote
 wrote-one l i x h = rw (add-one i) (set-split l i x h)
 

@@ -1,0 +1,186 @@
+-- What follows from the definition of a verdict. Assumes nothing.
+use Prim.Native.Nat.{ℕ, zero, suc, _+_, _*_, _%_, _≤_}
+use mathlib.Core.Path.{_≡_, refl, sym, ap, _∙_}
+use mathlib.Core.Bool.{Bool, true, false, _&&_, false≢true}
+use mathlib.Core.List.{List, [], _∷_, _++_}
+use native.Mathlib.Omega.{arith}
+use native.Mathlib.Decide.{decLt}
+use native.Mathlib.Nat.{add-zero, add-suc, suc-add}
+use lib.Dec.{eqb}
+use lib.ListN.{length, length-drop, take, drop}
+use lib.Seq.{take-add, take-length, length-take-le}
+use borrow.Author.Tests.{eqb-true, eq-eqb, le-ltb, lt-ltb, not-false}
+use Rattle.devices.specs.Cases.{tested}
+use Rattle.devices.specs.Refusal.{notRefused}
+use Rattle.script.specs.Format.{log, refusal}
+use Rattle.script.specs.Log.{entryLength, layout}
+use Rattle.script.specs.Log.Laws.{widths}
+use Rattle.script.specs.declared.entry.Part.{Part}
+use Rattle.compare.specs.Verdict.{alike, inFields, inRecords, common, partial, atEnd, decided, concluded, unreadable, verdict}
+use Rattle.compare.specs.declared.verdict.Log.the-variants.{First, Second}
+use Rattle.compare.specs.declared.verdict.Verdict.{Verdict}
+use Rattle.compare.specs.declared.verdict.Verdict.the-variants.{Refused, Record, Partial, Beginning, Equal}
+use Rattle.compare.specs.declared.comparison.Comparison.{Comparison}
+use Rattle.compare.specs.declared.comparison.Comparison.the-variants.{Open}
+
+and-both : (a b : Bool) → (a && b) ≡ true → (a ≡ true) × (b ≡ true)
+and-both true b e = (refl, e)
+and-both false b e = (e, absurd (false≢true e))
+
+-- Lists of bytes that are put together are alike where their parts are.
+pub alike-append :
+    (xs ys more others : List ℕ) → length xs ≡ length ys →
+    alike (xs ++ more) (ys ++ others) ≡ (alike xs ys && alike more others)
+alike-append [] [] more others e = refl
+alike-append [] (y ∷ ys) more others e = absurd (omega arith)
+alike-append (x ∷ xs) [] more others e = absurd (omega arith)
+alike-append (x ∷ xs) (y ∷ ys) more others e =
+    tested (eqb x y) (λ t. rw (t, alike-append xs ys more others (omega arith)) refl) (λ t. rw t refl)
+
+pub alike-split :
+    (m n : ℕ) (a b : List ℕ) → m ≤ length a → m ≤ length b →
+    alike (take (m + n) a) (take (m + n) b) ≡ (alike (take m a) (take m b) && alike (take n (drop m a)) (take n (drop m b)))
+alike-split m n a b h k =
+    rw (take-add m n a, take-add m n b)
+    (alike-append (take m a) (take m b) (take n (drop m a)) (take n (drop m b))
+    (length-take-le m a h ∙ sym (length-take-le m b k)))
+
+-- The bytes that two lists begin with, in two parts.
+module _ (m n : ℕ) (a b : List ℕ) (h : m ≤ length a) (k : m ≤ length b) where
+  pub both-alike :
+      alike (take (m + n) a) (take (m + n) b) ≡ true →
+      (alike (take m a) (take m b) ≡ true) × (alike (take n (drop m a)) (take n (drop m b)) ≡ true)
+  both-alike e = and-both _ _ (sym (alike-split m n a b h k) ∙ e)
+
+  pub rest-differs :
+      alike (take (m + n) a) (take (m + n) b) ≡ false → alike (take m a) (take m b) ≡ true →
+      alike (take n (drop m a)) (take n (drop m b)) ≡ false
+  rest-differs e f = rw (alike-split m n a b h k, f) at e
+
+-- Where the records are alike, no field is named.
+pub fields-alike :
+    (n : ℕ) (ps : List Part) (a b : List ℕ) (c : Comparison) → widths ps ≤ length a → widths ps ≤ length b →
+    alike (take (widths ps) a) (take (widths ps) b) ≡ true → inFields n ps a b c ≡ c
+unfolding inFields
+fields-alike n [] a b c h k e = refl
+fields-alike n (p ∷ ps) a b c h k e =
+    let both = both-alike (p .width) (widths ps) a b (omega arith) (omega arith) e in
+    rw (both .0)
+    (fields-alike n ps (drop (p .width) a) (drop (p .width) b) c (rw (length-drop (p .width) a) (omega arith))
+    (rw (length-drop (p .width) b) (omega arith)) (both .1))
+
+-- Equal lists are alike, and lists that are alike are equal.
+alike-self : (xs : List ℕ) → alike xs xs ≡ true
+alike-self [] = refl
+alike-self (x ∷ xs) = rw (eq-eqb x x refl, alike-self xs) refl
+
+alike-equal : (xs ys : List ℕ) → alike xs ys ≡ true → xs ≡ ys
+alike-equal [] [] e = refl
+alike-equal [] (y ∷ ys) e = absurd (false≢true e)
+alike-equal (x ∷ xs) [] e = absurd (false≢true e)
+alike-equal (x ∷ xs) (y ∷ ys) e =
+    let both = and-both (eqb x y) (alike xs ys) e in
+    rw (eqb-true x y (both .0), alike-equal xs ys (both .1)) refl
+
+-- The records of a log do not differ from themselves.
+fields-self : (n : ℕ) (ps : List Part) (a : List ℕ) (c : Comparison) → inFields n ps a a c ≡ c
+unfolding inFields
+fields-self n [] a c = refl
+fields-self n (p ∷ ps) a c = rw (alike-self (take (p .width) a)) (fields-self n ps (drop (p .width) a) c)
+
+records-self : (count n : ℕ) (a : List ℕ) → inRecords count n a a ≡ Open (n + count)
+unfolding inRecords
+records-self zero n a = rw (add-zero n) refl
+records-self (suc count) n a =
+    fields-self (suc n) layout a (inRecords count (suc n) (drop entryLength a) (drop entryLength a)) ∙
+    records-self count (suc n) (drop entryLength a) ∙ rw (add-suc n count, suc-add n count) refl
+
+-- Where the verdict is `equal`, no field differs.
+abbrev isEqual : Verdict → Bool
+isEqual (Refused log number) = false
+isEqual (Record n field) = false
+isEqual (Partial log) = false
+isEqual (Beginning log) = false
+isEqual Equal = true
+
+fields-equal :
+    (n : ℕ) (ps : List Part) (a b : List ℕ) (c : Comparison) (v : Verdict) → widths ps ≤ length a → widths ps ≤ length b →
+    decided (inFields n ps a b c) v ≡ Equal → (take (widths ps) a ≡ take (widths ps) b) × (decided c v ≡ Equal)
+unfolding inFields
+fields-equal n [] a b c v h k e = (refl, e)
+fields-equal n (p ∷ ps) a b c v h k e =
+    tested (alike (take (p .width) a) (take (p .width) b))
+    (λ t.
+    let rest =
+    fields-equal n ps (drop (p .width) a) (drop (p .width) b) c v (rw (length-drop (p .width) a) (omega arith))
+    (rw (length-drop (p .width) b) (omega arith)) (rw t at e) in (
+      rw (
+        take-add (p .width) (widths ps) a,
+        take-add (p .width) (widths ps) b,
+        alike-equal (take (p .width) a) (take (p .width) b) t,
+        rest .0,
+      ) refl,
+      rest .1,
+    ))
+    (λ t. absurd (false≢true (ap isEqual (rw t at e))))
+
+records-equal :
+    (count n : ℕ) (a b : List ℕ) (v : Verdict) → entryLength * count ≤ length a → entryLength * count ≤ length b →
+    decided (inRecords count n a b) v ≡ Equal → (take (entryLength * count) a ≡ take (entryLength * count) b) × (v ≡ Equal)
+unfolding inRecords
+records-equal zero n a b v h k e = (refl, e)
+records-equal (suc count) n a b v h k e =
+    let more : entryLength * suc count ≡ entryLength + entryLength * count = omega arith in
+    let both : (l : List ℕ) → take (entryLength * suc count) l ≡ take entryLength l ++ take (entryLength * count) (drop entryLength l) =
+    λ l. rw more (take-add entryLength (entryLength * count) l) in
+    let one =
+    fields-equal (suc n) layout a b (inRecords count (suc n) (drop entryLength a) (drop entryLength b)) v (omega arith)
+    (omega arith) e in
+    let others =
+    records-equal count (suc n) (drop entryLength a) (drop entryLength b) v (rw (length-drop entryLength a) (omega arith))
+    (rw (length-drop entryLength b) (omega arith)) (one .1) in (
+      both a ∙ ap (λ (l : List ℕ). l ++ take (entryLength * count) (drop entryLength a)) (one .0) ∙
+          ap (λ (l : List ℕ). take entryLength b ++ l) (others .0) ∙ sym (both b),
+      others .1,
+    )
+
+-- Of two lists of whole records.
+module _ (a b : List ℕ) (h : partial a ≡ false) (k : partial b ≡ false) where
+  lengths-equal : atEnd a b ≡ Equal → length a ≡ length b
+  lengths-equal e =
+      elim (decLt (length a) (length b)) [
+        | yes l ↦ absurd (false≢true (ap isEqual (rw (h, k, lt-ltb (length a) (length b) l) at e)))
+        | no l ↦
+            elim (decLt (length b) (length a)) [
+              | yes m ↦
+                  absurd
+                  (false≢true
+                  (ap isEqual (rw (h, k, le-ltb (length a) (length b) (omega arith), lt-ltb (length b) (length a) m) at e)))
+              | no m ↦ omega arith
+            ]
+      ]
+
+  pub whole-records-equal : (n : ℕ) → concluded (Open n) a b ≡ Equal → a ≡ b
+  unfolding concluded
+  whole-records-equal n e =
+      let both = records-equal (common a b) n a b (atEnd a b) (omega arith) (omega arith) e in
+      let long = lengths-equal (both .1) in
+      let none : length a % entryLength ≡ 0 = eqb-true (length a % entryLength) 0 (not-false _ h) in
+      let all : entryLength * common a b ≡ length a = omega arith in
+      let first : take (entryLength * common a b) a ≡ a = rw all (take-length a) in
+      let second : take (entryLength * common a b) b ≡ b = rw (all, long) (take-length b) in
+      sym first ∙ both .0 ∙ second
+
+pub self-equal : (n : ℕ) (a : List ℕ) → partial a ≡ false → concluded (Open n) a a ≡ Equal
+unfolding concluded
+self-equal n a h =
+    rw (records-self (common a a) n a, h, le-ltb (length a) (length a) (omega arith)) refl
+
+-- A log that counts as empty: the first, whatever the second is, and the second where the first is accepted.
+pub unreadable-first : (second : List ℕ) → verdict [] second ≡ unreadable First
+unfolding concluded
+unreadable-first second = refl
+
+pub unreadable-second : (first : List ℕ) → refusal log first ≡ notRefused → verdict first [] ≡ unreadable Second
+unfolding concluded
+unreadable-second first e = rw e refl
