@@ -147,8 +147,9 @@ fn compare_records(
             return Verdict::unreadable(Log::Second);
         }
         if count_1 < PIECE {
-            return end_second(
+            return end_longer(
                 comparison,
+                Log::Second,
                 &first[taken..count_1],
                 fd_2,
                 name_2,
@@ -158,8 +159,9 @@ fn compare_records(
             );
         }
         if count_2 < PIECE {
-            return end_first(
+            return end_longer(
                 comparison,
+                Log::First,
                 &second[taken..count_2],
                 fd_1,
                 name_1,
@@ -172,9 +174,10 @@ fn compare_records(
     Verdict::unreadable(Log::First)
 }
 
-// The first log has ended, and `left` is left of it: the second is read to its end.
-fn end_second(
+// One log has ended, with `left` left of it: the longer one is read to its end, from what lies in its window.
+fn end_longer(
     comparison: Comparison,
+    longer: Log,
     left: &[u8],
     fd: i32,
     name: &[u8],
@@ -188,30 +191,12 @@ fn end_second(
     let rest = read_rest(left, fd, name, window, from, to);
     let count = rest.count;
     if rest.failed {
-        return Verdict::unreadable(Log::Second);
+        return Verdict::unreadable(longer);
     }
-    comparison.end(left, &window[..count])
-}
-
-// The second log has ended, and `left` is left of it: the first is read to its end.
-fn end_first(
-    comparison: Comparison,
-    left: &[u8],
-    fd: i32,
-    name: &[u8],
-    window: &mut [u8],
-    from: usize,
-    to: usize,
-) -> Verdict
-    requires { ⌜ from ≤ to ⌝ }
-    requires { ⌜ to ≤ length (now window) ⌝ }
-{
-    let rest = read_rest(left, fd, name, window, from, to);
-    let count = rest.count;
-    if rest.failed {
-        return Verdict::unreadable(Log::First);
+    match longer {
+        Log::First => comparison.end(&window[..count], left),
+        Log::Second => comparison.end(left, &window[..count]),
     }
-    comparison.end(&window[..count], left)
 }
 
 // Reads a log to its end, from what lies in the window between `from` and `to`, and leaves at the window's start what the verdict

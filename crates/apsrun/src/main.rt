@@ -83,6 +83,7 @@ fn fill(buffer: &mut [u8]) -> Filled
     stream::fill(STDIN_FILENO, b"standard input", buffer)
 }
 
+// Whether all could be written.
 fn emit(bytes: &[u8]) -> bool {
-    stream::emit(STDOUT_FILENO, b"standard output", bytes)
+    stream::emit(STDOUT_FILENO, b"standard output", bytes) == bytes.len()
 }

@@ -1,6 +1,8 @@
 // Reading and writing by file descriptor, for programs. A call that fails says so on standard error, by the name that it is given.
 // A proved loop has to end, and nothing says that a file does: the loops count their turns down, from a number that no run uses
 // up.
+ghost use Prim.Native.Nat.{_≤_};
+ghost use lib.ListN.{length};
 ghost use Rattle.io.specs.Counts.{Counts};
 use libc::STDERR_FILENO;
 
@@ -51,30 +53,32 @@ pub fn fill(fd: i32, name: &[u8], buffer: &mut [u8]) -> Filled
     }
 }
 
-// Writes all of the bytes, and answers whether it could. A write may take fewer than it was given, and one that a signal
-// interrupts is made again.
-pub fn emit(fd: i32, name: &[u8], bytes: &[u8]) -> bool {
+// Writes the bytes, and answers how many it could: fewer than all where a write failed. A write may take fewer than it was given,
+// and one that a signal interrupts is made again.
+pub fn emit(fd: i32, name: &[u8], bytes: &[u8]) -> usize
+    ensures { λ r. ⌜ r ≤ length (now (bytes .entry)) ⌝ }
+{
     let mut count = 0;
     let mut turns = u64::MAX;
     while 0 < turns {
         turns -= 1;
         if bytes.len() <= count {
-            return true;
+            return count;
         }
         let put = libc::write(fd, &bytes[count..]);
         if put == 0 {
             io::write_all(STDERR_FILENO, name);
             io::write_all(STDERR_FILENO, b": nothing could be written\n");
-            return false;
+            return count;
         }
         if put < 0 {
             if os::errno() != libc::EINTR {
                 os::fail(name);
-                return false;
+                return count;
             }
         } else {
             count += io::count(put, &bytes[count..]);
         }
     }
-    false
+    count
 }

@@ -13,13 +13,10 @@ use mir.Val.{Fits}
 use borrow.Author.Tests.{not-true, not-false}
 use Rattle.script.specs.Log.Laws.{widths}
 use Rattle.script.specs.declared.entry.Part.{Part}
-use Rattle.script.specs.declared.entry.Field.{Field}
 use Rattle.compare.specs.Verdict.{alike, inFields}
 use Rattle.compare.specs.Verdict.Laws.{rest-differs}
 use Rattle.compare.specs.Private.{DiffersIn}
-use Rattle.compare.specs.declared.verdict.Verdict.the-variants.{Record}
 use Rattle.compare.specs.declared.comparison.Comparison.{Comparison}
-use Rattle.compare.specs.declared.comparison.Comparison.the-variants.{Decided}
 
 -- Two records, from `at` on, have equal fields before the i-th, which begins at `from`, and what is left of them differs: the
 -- search goes on there.

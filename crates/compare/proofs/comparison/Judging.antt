@@ -1,16 +1,15 @@
 -- The tests of headers, of lengths and of what is left. Assumes nothing.
 use Prim.Native.Nat.{ℕ, _-_, _*_, _/_, _%_, _≤_, _<_}
-use mathlib.Core.Path.{_≡_, refl, sym, _∙_}
-use mathlib.Core.Bool.{Bool, true, false, not, cond}
+use mathlib.Core.Path.{_≡_, refl}
+use mathlib.Core.Bool.{true, false}
 use mathlib.Core.List.{List}
 use native.Mathlib.Omega.{arith}
-use lib.Dec.{eqb, ltb}
 use lib.ListN.{length}
-use borrow.Author.Tests.{lt-ltb, eq-eqb, ne-eqb}
+use borrow.Author.Tests.{lt-ltb, ne-eqb}
 use Rattle.devices.specs.Refusal.{notRefused}
-use Rattle.devices.specs.Cases.{if-true, if-false, cases}
+use Rattle.devices.specs.Cases.{cases}
 use Rattle.script.specs.Log.{entryLength}
-use Rattle.script.specs.Format.{log, refusal, numberOf, verdictNumber}
+use Rattle.script.specs.Format.{numberOf, verdictNumber}
 use Rattle.script.specs.Format.Laws.{refused-number}
 use Rattle.script.specs.declared.format.Reason.{Reason}
 use Rattle.script.specs.declared.format.Verdict.{Verdict}

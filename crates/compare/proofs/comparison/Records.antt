@@ -1,8 +1,8 @@
 -- Records compared one after the other. Assumes nothing.
-use Prim.Native.Nat.{ℕ, zero, suc, _+_, _-_, _*_, _/_, _≤_, _<_, min}
-use mathlib.Core.Path.{_≡_, refl, sym, ap, _∙_}
+use Prim.Native.Nat.{ℕ, zero, suc, _+_, _-_, _*_, _≤_, _<_, min}
+use mathlib.Core.Path.{_≡_, refl, sym, _∙_}
 use mathlib.Core.Bool.{Bool, true, false, not}
-use mathlib.Core.List.{List, []}
+use mathlib.Core.List.{List}
 use native.Mathlib.Omega.{arith}
 use native.Mathlib.Nat.{add-zero, add-suc, suc-add, sub-zero}
 use lib.ListN.{length, length-drop, take, drop}
@@ -11,7 +11,7 @@ use borrow.Author.Tests.{not-true, not-false}
 use Rattle.devices.specs.Cases.{tested}
 use Rattle.script.specs.Log.{entryLength, layout}
 use Rattle.script.specs.declared.entry.Field.{Field}
-use Rattle.compare.specs.Verdict.{alike, inFields, inRecords, common, atEnd}
+use Rattle.compare.specs.Verdict.{alike, inRecords, common, atEnd}
 use Rattle.compare.specs.Verdict.Laws.{fields-alike}
 use Rattle.compare.specs.Comparison.{largest, next, taken, end}
 use Rattle.compare.specs.Comparison.Laws.{taken-first, taken-second}

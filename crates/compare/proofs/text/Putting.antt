@@ -1,9 +1,8 @@
 -- Bytes put one behind the other. Assumes nothing.
-use Prim.Native.Nat.{ℕ, _+_, _^_, _/_, _≤_, _<_}
-use mathlib.Core.Path.{_≡_, refl, sym, _∙_}
+use Prim.Native.Nat.{ℕ, _+_, _/_, _≤_, _<_}
+use mathlib.Core.Path.{_≡_, refl, _∙_}
 use mathlib.Core.List.{List, [], _∷_, _++_}
 use native.Mathlib.Omega.{arith}
-use native.Mathlib.Nat.{add-assoc}
 use lib.ListN.{length, length-append, take, set}
 use mir.Syntax.{w8, w64}
 use mir.Val.{Fits}

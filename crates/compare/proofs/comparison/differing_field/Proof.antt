@@ -1,7 +1,7 @@
 -- The loop: the fields before its place are equal. Assumes nothing.
 use borrow.Author.Needs.{needs}
 use Prim.Native.Nat.{_-_, _≤_}
-use mathlib.Core.Path.{_≡_, refl}
+use mathlib.Core.Path.{_≡_}
 use lib.ListN.{length}
 use Rattle.devices.specs.Lists.{length-of}
 use Rattle.compare.proofs.comparison.Fields.{Searching, searching-all, searching-on, field-within, field-fits, named-here, named-last}
