@@ -6,7 +6,7 @@ ghost use mathlib.Core.Bool.{false};
 ghost use Prim.Native.Nat.{_+_, _*_, _≤_, min};
 ghost use lib.ListN.{length, take, drop};
 ghost use Rattle.script.specs.Format.{log, refusal, numberOf};
-ghost use Rattle.script.specs.Log.{entryLength};
+ghost use Rattle.script.specs.Log.{entryLength, layout};
 ghost use Rattle.script.specs.Log.Laws.{widths};
 ghost use Rattle.compare.specs.Verdict as verdicts;
 ghost use Rattle.compare.specs.Comparison as comparisons;
@@ -108,7 +108,7 @@ fn compare_records(before: u64, first: &[u8], second: &[u8]) -> Step
     let count = least(first.len() / entry::LENGTH, second.len() / entry::LENGTH);
     let same = equal_records(first, second, count);
     if same < count {
-        let field = differing_field(entry::LAYOUT, first, second, entry::LENGTH * same);
+        let field = field_at(first, second, entry::LENGTH * same);
         return Step {
             comparison: Comparison::Decided(Verdict::Record {
                 number: plus(before, same as u64 + 1),
@@ -129,14 +129,24 @@ fn equal_records(first: &[u8], second: &[u8], count: usize) -> usize
     requires { ⌜ entryLength * count ≤ length (now second) ⌝ }
     ensures { λ r. ⌜ r ≡ private.agreeing count (now (first .entry)) (now (second .entry)) ⌝ }
 {
-    let mut i = 0;
-    while i < count {
-        if !equal(first, second, entry::LENGTH * i, entry::LENGTH) {
-            return i;
+    let mut same = 0;
+    while same < count {
+        if !equal(first, second, entry::LENGTH * same, entry::LENGTH) {
+            return same;
         }
-        i += 1;
+        same += 1;
     }
-    count
+    same
+}
+
+// The first field that differs in the records from `at` on, which differ.
+fn field_at(first: &[u8], second: &[u8], at: usize) -> Field
+    requires { ⌜ at + entryLength ≤ length (now first) ⌝ }
+    requires { ⌜ at + entryLength ≤ length (now second) ⌝ }
+    requires { ⌜ verdicts.alike (take entryLength (drop at (now first))) (take entryLength (drop at (now second))) ≡ false ⌝ }
+    ensures { λ r. ⌜ private.DiffersIn layout (drop at (now (first .entry))) (drop at (now (second .entry))) r ⌝ }
+{
+    differing_field(entry::layout(), first, second, at)
 }
 
 // The first field of a table that differs in the records from `at` on, which differ.

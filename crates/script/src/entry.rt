@@ -44,7 +44,7 @@ pub struct Part {
 pub const FIELDS: usize = 9;
 
 // The fields of a record, in the order of their bytes.
-pub const LAYOUT: [Part; FIELDS] = [
+const LAYOUT: [Part; FIELDS] = [
     Part {
         field: Field::Number,
         width: 1,
@@ -82,6 +82,13 @@ pub const LAYOUT: [Part; FIELDS] = [
         width: 8,
     },
 ];
+
+// That table.
+pub fn layout() -> [Part; FIELDS]
+    ensures { λ r. ⌜ r ≡ logs.layout ⌝ }
+{
+    LAYOUT
+}
 
 // Each of these puts a log record into the log, from `at` on; `machine` is the machine after the call. A refusal:
 pub(crate) fn refused(log: &mut [u8], at: usize, refusal: u8, machine: Machine)

@@ -11,8 +11,10 @@ use lib.Seq.{drop-cons, drop-drop}
 use mir.Syntax.{w64}
 use mir.Val.{Fits}
 use borrow.Author.Tests.{not-true, not-false}
+use Rattle.script.specs.Log.{entryLength, layout}
 use Rattle.script.specs.Log.Laws.{widths}
 use Rattle.script.specs.declared.entry.Part.{Part}
+use Rattle.script.specs.declared.entry.Field.{Field}
 use Rattle.compare.specs.Verdict.{alike, inFields}
 use Rattle.compare.specs.Verdict.Laws.{rest-differs}
 use Rattle.compare.specs.Private.{DiffersIn}
@@ -84,3 +86,17 @@ module _ (table : List Part) (a b : List ℕ) (at : ℕ) where
       drop-cons table n z (omega arith) ∙ rw (drop-of-length-le table {i = suc n} (omega arith)) refl in
       let differ = rw (last, alone, add-zero (getD table n z .width)) at (s .differ) in
       record { named = λ m c. s .onward m c ∙ rw (last, alone, differ) refl }
+
+-- The table of a log record.
+module _ (table : List Part) (known : table ≡ layout) (at : ℕ) (a b : List ℕ) where
+  pub record-within : (bytes : List ℕ) → at + entryLength ≤ length bytes → at + widths table ≤ length bytes
+  record-within bytes h = rw known h
+
+  pub table-differs :
+      alike (take entryLength (drop at a)) (take entryLength (drop at b)) ≡ false →
+      alike (take (widths table) (drop at a)) (take (widths table) (drop at b)) ≡ false
+  table-differs e = rw known e
+
+  pub record-differs :
+      (field : Field) → DiffersIn table (drop at a) (drop at b) field → DiffersIn layout (drop at a) (drop at b) field
+  record-differs field d = rw known at d

@@ -56,12 +56,11 @@ module _ (count : ℕ) (a b : List ℕ) where
               ) (omega arith);
         }
 
-  pub all-counted : (i : ℕ) → Counting count a b i → i ≤ count → count ≤ i → count ≡ agreeing count a b
+  pub all-counted : (i : ℕ) → Counting count a b i → i ≤ count → count ≤ i → i ≡ agreeing count a b
   unfolding agreeing
   all-counted i s l k =
-      let all : i ≡ count = omega arith in
-      let none : count - count ≡ 0 = omega arith in
-      sym (s .so-far ∙ rw (all, none) (add-zero count))
+      let none : count - i ≡ 0 = omega arith in
+      sym (s .so-far ∙ rw none (add-zero i))
 
 -- The first record that differs.
 pub records-differ :
