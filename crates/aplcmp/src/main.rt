@@ -16,14 +16,13 @@ use script::entry;
 use script::format::Format;
 use stream::Filled;
 
-// Each log is read in pieces of a whole number of records: they are taken whole as long as both logs go on.
+// Each log is read in pieces of a whole number of records, as many as 64 KiB have: they are taken whole as long as both logs go on.
 const PIECE: usize = 1365 * entry::LENGTH;
 
-// A log that was opened for reading. The descriptor is negative where it cannot be read: then it is empty.
+// A log's descriptor, negative where it could not be opened, and how many bytes its name has.
 struct Opened {
     fd: i32,
-    // How long its name is.
-    name: usize,
+    named: usize,
 }
 
 fn main() {
@@ -47,8 +46,8 @@ fn compare_named() -> Verdict {
     let mut name_2 = io::buffer();
     let first = open(1, &mut name_1);
     let second = open(2, &mut name_2);
-    let length_1 = first.name;
-    let length_2 = second.name;
+    let length_1 = first.named;
+    let length_2 = second.named;
     compare(
         first.fd,
         &name_1[..length_1],
@@ -59,24 +58,25 @@ fn compare_named() -> Verdict {
 
 // Opens the log that an argument names, and puts its name into the buffer.
 fn open(i: usize, name: &mut [u8]) -> Opened
-    ensures { λ r. ⌜ Counts (r .name) (now (name .exit)) ⌝ }
+    ensures { λ r. ⌜ Counts (r .named) (now (name .exit)) ⌝ }
 {
     let length = os::arg(i, name);
     if os::errno() == libc::EINVAL {
         // The argument is missing, and main has said so.
-        return Opened { fd: -1, name: 0 };
+        return Opened { fd: -1, named: 0 };
     }
     if os::errno() != 0 {
-        os::fail(b"a log's name");
-        return Opened { fd: -1, name: 0 };
+        os::fail(b"the name of a log");
+        return Opened { fd: -1, named: 0 };
     }
     let fd = os::open_read(&name[..length]);
     if fd < 0 {
         os::fail(&name[..length]);
     }
-    Opened { fd, name: length }
+    Opened { fd, named: length }
 }
 
+// A log that could not be opened is empty.
 fn read(fd: i32, name: &[u8], buffer: &mut [u8]) -> Filled
     ensures { λ r. ⌜ Counts (r .count) (now (buffer .exit)) ⌝ }
 {
@@ -109,7 +109,7 @@ fn compare(fd_1: i32, name_1: &[u8], fd_2: i32, name_2: &[u8]) -> Verdict {
     let begun = Comparison::begin(&first[..count_1], &second[..count_2]);
     match begun {
         Comparison::Decided(verdict) => verdict,
-        Comparison::Open(_) => compare_records(begun, fd_1, name_1, fd_2, name_2),
+        Comparison::Undecided(_) => compare_records(begun, fd_1, name_1, fd_2, name_2),
     }
 }
 
@@ -137,7 +137,7 @@ fn compare_records(
         comparison = step.comparison;
         match comparison {
             Comparison::Decided(verdict) => return verdict,
-            Comparison::Open(_) => {}
+            Comparison::Undecided(_) => {}
         }
         // What came before a read that failed has been compared.
         if read_1.failed {
@@ -147,7 +147,7 @@ fn compare_records(
             return Verdict::unreadable(Log::Second);
         }
         if count_1 < PIECE {
-            return end_longer(
+            return end_other(
                 comparison,
                 Log::Second,
                 &first[taken..count_1],
@@ -159,7 +159,7 @@ fn compare_records(
             );
         }
         if count_2 < PIECE {
-            return end_longer(
+            return end_other(
                 comparison,
                 Log::First,
                 &second[taken..count_2],
@@ -171,13 +171,15 @@ fn compare_records(
             );
         }
     }
+    // No run comes here.
     Verdict::unreadable(Log::First)
 }
 
-// One log has ended, with `left` left of it: the longer one is read to its end, from what lies in its window.
-fn end_longer(
+// One log has ended, with `left` left of it: the other is read to its end, where the verdict depends on it, from what lies in its
+// window between `from` and `to`.
+fn end_other(
     comparison: Comparison,
-    longer: Log,
+    other: Log,
     left: &[u8],
     fd: i32,
     name: &[u8],
@@ -188,14 +190,26 @@ fn end_longer(
     requires { ⌜ from ≤ to ⌝ }
     requires { ⌜ to ≤ length (now window) ⌝ }
 {
+    if is_certain(other, left.len()) {
+        return comparison.end(left, &window[from..to]);
+    }
     let rest = read_rest(left, fd, name, window, from, to);
     let count = rest.count;
     if rest.failed {
-        return Verdict::unreadable(longer);
+        return Verdict::unreadable(other);
     }
-    match longer {
+    match other {
         Log::First => comparison.end(&window[..count], left),
         Log::Second => comparison.end(left, &window[..count]),
+    }
+}
+
+// Whether the verdict does not depend on what follows of the other log: where the first ends in a part of a record, that is named
+// before anything of the second.
+fn is_certain(other: Log, left: usize) -> bool {
+    match other {
+        Log::First => false,
+        Log::Second => left % entry::LENGTH != 0,
     }
 }
 

@@ -1,33 +1,42 @@
 -- How two logs are given to a comparison, piece by piece: the words of the claims.
-use Prim.Native.Nat.{ℕ, _≤_}
+use Prim.Native.Nat.{ℕ, _≤_, _<_}
 use mathlib.Core.Path.{_≡_}
+use mathlib.Core.Bool.{true}
 use mathlib.Core.List.{List, _++_}
-use lib.ListN.{take, drop}
+use lib.ListN.{length, take, drop}
 use Rattle.script.specs.Format.{headerLength}
-use Rattle.compare.specs.Verdict.{begun}
-use Rattle.compare.specs.Comparison.{next, taken, end, surplus}
+use Rattle.script.specs.Log.{entryLength}
+use Rattle.compare.specs.Verdict.{partial}
+use Rattle.compare.specs.Comparison.{begun, next, taken, end, surplus}
 use Rattle.compare.specs.declared.comparison.Comparison.{Comparison}
+use Rattle.compare.specs.declared.comparison.Comparison.the-variants.{Decided}
 use Rattle.compare.specs.declared.comparison.Step.{Step}
 use Rattle.compare.specs.declared.verdict.Verdict.{Verdict}
 
--- A comparison goes on over what is left of each log, and comes to a verdict. Each step is a call that meets its contract.
--- * `next` is given a piece of each: anything that what is left of that log begins with, an empty list too, each cut in its own
---   way and anywhere. What it takes is left no more.
--- * Where a log is given to its end, bytes of the other may be passed over by `surplus`.
--- * `end` is given all that is left of each.
-pub data Goes : Comparison → (first second : List ℕ) → Verdict → Type 0 where
+-- A comparison comes to a verdict over what is left of each log, call by call; each call meets its contract.
+-- * `next-pieces`: `next` is given a piece of each, anything that what is left of that log begins with, an empty list too, each
+--   cut in its own way and anywhere. What it takes is left no more.
+-- * `known`: the verdict is known, and nothing more is given.
+-- * `first-ended`, `second-ended`: a log is given to its end, and bytes of the other are passed over by `surplus`.
+-- * `first-in-part`: the first log is given to its end, and ends in a part of a record. Of the second, `end` may be given less.
+-- * `at-end`: `end` is given all that is left of each.
+pub data ComesTo : Comparison → (records records′ : List ℕ) → Verdict → Type 0 where
   next-pieces :
       (piece more piece′ more′ : List ℕ) {c : Comparison} {r : Step} {v : Verdict} →
       r .comparison ≡ next c piece piece′ → r .taken ≡ taken c piece piece′ →
-      Goes (r .comparison) (drop (r .taken) (piece ++ more)) (drop (r .taken) (piece′ ++ more′)) v →
-      Goes c (piece ++ more) (piece′ ++ more′) v
+      ComesTo (r .comparison) (drop (r .taken) (piece ++ more)) (drop (r .taken) (piece′ ++ more′)) v →
+      ComesTo c (piece ++ more) (piece′ ++ more′) v
+  known : {records records′ : List ℕ} {v : Verdict} → ComesTo (Decided v) records records′ v
   first-ended :
-      (first piece more : List ℕ) {c : Comparison} {n : ℕ} {v : Verdict} → n ≡ surplus first piece →
-      Goes c first (drop n (piece ++ more)) v → Goes c first (piece ++ more) v
+      (records piece more : List ℕ) {c : Comparison} {n : ℕ} {v : Verdict} → n ≡ surplus records piece →
+      ComesTo c records (drop n (piece ++ more)) v → ComesTo c records (piece ++ more) v
   second-ended :
-      (piece more second : List ℕ) {c : Comparison} {n : ℕ} {v : Verdict} → n ≡ surplus second piece →
-      Goes c (drop n (piece ++ more)) second v → Goes c (piece ++ more) second v
-  at-end : {c : Comparison} {first second : List ℕ} {v : Verdict} → v ≡ end c first second → Goes c first second v
+      (piece more records′ : List ℕ) {c : Comparison} {n : ℕ} {v : Verdict} → n ≡ surplus records′ piece →
+      ComesTo c (drop n (piece ++ more)) records′ v → ComesTo c (piece ++ more) records′ v
+  first-in-part :
+      (records piece more : List ℕ) {c : Comparison} {v : Verdict} → length records < entryLength →
+      partial records ≡ true → v ≡ end c records piece → ComesTo c records (piece ++ more) v
+  at-end : {c : Comparison} {records records′ : List ℕ} {v : Verdict} → v ≡ end c records records′ → ComesTo c records records′ v
 
 -- Two logs are compared: `begin` is given the first bytes of each, as many as a header has or more, or all where there are
 -- fewer, and the comparison goes on behind the headers.
@@ -38,4 +47,4 @@ pub record Compared (first second : List ℕ) (v : Verdict) : Type 0 where
   pub header′ : headerLength ≤ given′
   pub start : Comparison
   pub begins : start ≡ begun (take given first) (take given′ second)
-  pub goes : Goes start (drop headerLength first) (drop headerLength second) v
+  pub goes : ComesTo start (drop headerLength first) (drop headerLength second) v

@@ -9,9 +9,7 @@ use Rattle.script.specs.Log.{entryLength}
 use Rattle.script.specs.declared.entry.Part.{Part}
 use Rattle.script.specs.declared.entry.Field.{Field}
 use Rattle.compare.specs.Verdict.{alike, inFields}
-use Rattle.compare.specs.declared.verdict.Verdict.the-variants.{Record}
 use Rattle.compare.specs.declared.comparison.Comparison.{Comparison}
-use Rattle.compare.specs.declared.comparison.Comparison.the-variants.{Decided}
 
 -- how many of the next so many records are equal before the first that differs
 unfoldable pub agreeing : (count : ℕ) → (first second : List ℕ) → ℕ
@@ -22,7 +20,7 @@ agreeing (suc count) first second =
 
 -- Of these fields, which the bytes begin with, this is the first that differs.
 pub record DiffersIn (table : List Part) (first second : List ℕ) (field : Field) : Type 0 where
-  pub named : (n : ℕ) (otherwise : Comparison) → inFields n table first second otherwise ≡ Decided (Record n field)
+  pub names : (named : Field → Comparison) (otherwise : Comparison) → inFields named table first second otherwise ≡ named field
 
 -- Bytes are put into a buffer from `at` on, end at `end`, and have room in it.
 pub record Put (before : List ℕ) (at : ℕ) (bytes : List ℕ) (end : ℕ) (after : List ℕ) : Type 0 where

@@ -1,4 +1,5 @@
--- The verdict on two logs: paper 02, No. 1. A log here is a whole file, header and all.
+-- The verdict on two logs: paper 02, No. 1. `first` and `second` are whole files; `records` and `records′` are what follows
+-- their headers.
 pub mod Laws
 use Prim.Native.Nat.{ℕ, zero, suc, _/_, _%_, min}
 use mathlib.Core.Bool.{Bool, true, false, not, cond, _&&_}
@@ -6,77 +7,74 @@ use mathlib.Core.List.{List, [], _∷_}
 use lib.Dec.{eqb, ltb}
 use lib.ListN.{length, take, drop}
 use Rattle.devices.specs.Refusal.{notRefused}
-use Rattle.script.specs.Format.{log, headerLength, refusal}
-use Rattle.script.specs.Refusal.{badFile}
+use Rattle.script.specs.Format.{log, header, headerLength, refusal}
 use Rattle.script.specs.Log.{entryLength, layout}
+use Rattle.script.specs.declared.entry.Field.{Field}
 use Rattle.script.specs.declared.entry.Part.{Part}
 use Rattle.compare.specs.declared.verdict.Log.{Log}
 use Rattle.compare.specs.declared.verdict.Log.the-variants.{First, Second}
 use Rattle.compare.specs.declared.verdict.Verdict.{Verdict}
 use Rattle.compare.specs.declared.verdict.Verdict.the-variants.{Refused, Record, Partial, Beginning, Equal}
-use Rattle.compare.specs.declared.comparison.Comparison.{Comparison}
-use Rattle.compare.specs.declared.comparison.Comparison.the-variants.{Open, Decided}
-
--- "or refuses a log by 11 or 12, the first log judged first": nothing is compared yet, or one is refused.
-abbrev pub judged : Log → (number : ℕ) → Comparison → Comparison
-judged which number otherwise = cond (eqb number notRefused) otherwise (Decided (Refused which number))
-
-abbrev pub begun : (first second : List ℕ) → Comparison
-begun first second = judged First (refusal log first) (judged Second (refusal log second) (Open 0))
-
--- "A missing or unreadable log counts as empty": its verdict is that of an empty log (`unreadable-first` and
--- `unreadable-second` of the laws).
-abbrev pub unreadable : Log → Verdict
-unreadable which = Refused which badFile
 
 -- whether two lists of bytes are equal
-abbrev pub alike : (first second : List ℕ) → Bool
+abbrev pub alike : List ℕ → List ℕ → Bool
 alike [] [] = true
 alike [] (y ∷ ys) = false
 alike (x ∷ xs) [] = false
 alike (x ∷ xs) (y ∷ ys) = eqb x y && alike xs ys
 
--- "names the first record that differs and the first differing field in it": the fields of record n, one after the other
-unfoldable pub inFields : (n : ℕ) → List Part → (first second : List ℕ) → (otherwise : Comparison) → Comparison
-inFields n [] first second otherwise = otherwise
-inFields n (p ∷ ps) first second otherwise =
-    cond (alike (take (p .width) first) (take (p .width) second))
-    (inFields n ps (drop (p .width) first) (drop (p .width) second) otherwise) (Decided (Record n (p .field)))
+-- "names .. the first differing field": of some fields, one after the other, the first that differs is `named`; `otherwise`
+-- none does
+unfoldable pub inFields :
+    {A : Type 0} (named : Field → A) → List Part → (records records′ : List ℕ) → (otherwise : A) → A
+inFields named [] records records′ otherwise = otherwise
+inFields named (p ∷ ps) records records′ otherwise =
+    cond (alike (take (p .width) records) (take (p .width) records′))
+    (inFields named ps (drop (p .width) records) (drop (p .width) records′) otherwise) (named (p .field))
 
--- the next so many records, behind n that are equal; "`record 3 cycles` (counted from 1)"
-unfoldable pub inRecords : (count n : ℕ) → (first second : List ℕ) → Comparison
-inRecords zero n first second = Open n
-inRecords (suc count) n first second =
-    inFields (suc n) layout first second (inRecords count (suc n) (drop entryLength first) (drop entryLength second))
+-- "names the first record that differs": of the first `count` records after n that are equal; "(counted from 1)"
+unfoldable pub inRecords :
+    {A : Type 0} (named : ℕ → Field → A) → (count n : ℕ) → (records records′ : List ℕ) → (otherwise : A) → A
+inRecords named zero n records records′ otherwise = otherwise
+inRecords named (suc count) n records records′ otherwise =
+    inFields (named (suc n)) layout records records′
+    (inRecords named count (suc n) (drop entryLength records) (drop entryLength records′) otherwise)
 
 -- "whole records both have"
 abbrev pub whole : List ℕ → ℕ
 whole records = length records / entryLength
 
-abbrev pub common : (first second : List ℕ) → ℕ
-common first second = min (whole first) (whole second)
+abbrev pub common : (records records′ : List ℕ) → ℕ
+common records records′ = min (whole records) (whole records′)
 
 -- "else a partial record at the end is named, with its log, the first log first; else a strict beginning; else equal";
 -- "`beginning 2` (the shorter log)"
 abbrev pub partial : List ℕ → Bool
 partial records = not (eqb (length records % entryLength) 0)
 
-abbrev pub atEnd : (first second : List ℕ) → Verdict
-atEnd first second =
-    cond (partial first) (Partial First)
-    (cond (partial second) (Partial Second)
-    (cond (ltb (length first) (length second)) (Beginning First)
-    (cond (ltb (length second) (length first)) (Beginning Second) Equal)))
+abbrev pub atEnd : (records records′ : List ℕ) → Verdict
+atEnd records records′ =
+    cond (partial records) (Partial First)
+    (cond (partial records′) (Partial Second)
+    (cond (ltb (length records) (length records′)) (Beginning First)
+    (cond (ltb (length records′) (length records)) (Beginning Second) Equal)))
 
--- "The first difference in whole records both have comes first": the verdict of a comparison, with what is left of each log.
-abbrev pub decided : Comparison → (otherwise : Verdict) → Verdict
-decided (Open n) otherwise = otherwise
-decided (Decided v) otherwise = v
+-- "The first difference in whole records both have comes first"
+abbrev pub onRecords : (records records′ : List ℕ) → Verdict
+onRecords records records′ = inRecords Record (common records records′) 0 records records′ (atEnd records records′)
 
-unfoldable pub concluded : Comparison → (first second : List ℕ) → Verdict
-concluded (Open n) first second = decided (inRecords (common first second) n first second) (atEnd first second)
-concluded (Decided v) first second = v
+-- "or refuses a log by 11 or 12": what a refused file comes to, by its number; `otherwise` it is not refused
+abbrev pub judged : {A : Type 0} (refused : ℕ → A) → (file : List ℕ) → (otherwise : A) → A
+judged refused file otherwise = cond (eqb (refusal log file) notRefused) otherwise (refused (refusal log file))
 
--- the verdict on two logs
+-- The verdict: "the first log judged first", and then its records, for a refused file has none.
 abbrev pub verdict : (first second : List ℕ) → Verdict
-verdict first second = concluded (begun first second) (drop headerLength first) (drop headerLength second)
+verdict first second =
+    judged (Refused First) first
+    (judged (Refused Second) second (onRecords (drop headerLength first) (drop headerLength second)))
+
+-- "A missing or unreadable log counts as empty": the first, or the second behind a first that is accepted. (It does not matter
+-- what the other log is: `unreadable-first` and `unreadable-second` of the laws.)
+abbrev pub unreadable : Log → Verdict
+unreadable First = verdict [] []
+unreadable Second = verdict (header log) []

@@ -5,15 +5,14 @@ ghost use mathlib.Core.Path.{_≡_};
 ghost use mathlib.Core.Bool.{false};
 ghost use Prim.Native.Nat.{_+_, _*_, _≤_, min};
 ghost use lib.ListN.{length, take, drop};
-ghost use Rattle.script.specs.Format.{log, refusal, numberOf};
+ghost use Rattle.script.specs.Format.{numberOf};
 ghost use Rattle.script.specs.Log.{entryLength, layout};
 ghost use Rattle.script.specs.Log.Laws.{widths};
 ghost use Rattle.compare.specs.Verdict as verdicts;
 ghost use Rattle.compare.specs.Comparison as comparisons;
 ghost use Rattle.compare.specs.Private as private;
 ghost use Rattle.compare.specs.declared.verdict.Log.the-variants.{Second};
-ghost use Rattle.compare.specs.declared.verdict.Verdict.the-variants.{Refused};
-ghost use Rattle.compare.specs.declared.comparison.Comparison.the-variants.{Open, Decided};
+ghost use Rattle.compare.specs.declared.comparison.Comparison.the-variants.{Undecided};
 use crate::bytes::equal;
 use crate::verdict::Log;
 use crate::verdict::Verdict;
@@ -23,13 +22,13 @@ use script::entry::Part;
 use script::format;
 use script::format::Reason;
 
-// The place of the last field in the table.
+// The place of the last field in the table. It is not compared: in records that differ it differs if no field before it does.
 const LAST_FIELD: usize = entry::FIELDS - 1;
 
 // What is known so far.
 pub enum Comparison {
     // So many records of each log are equal. The largest number stands for itself and every larger one.
-    Open(u64),
+    Undecided(u64),
     Decided(Verdict),
 }
 
@@ -43,7 +42,7 @@ impl Comparison {
     // Begins with the first bytes of each log: as many as a header has, or more, or all where there are fewer. Their headers are
     // judged; what is behind them is not looked at. The pieces begin behind the headers.
     pub fn begin(first: &[u8], second: &[u8]) -> Self
-        ensures { λ r. ⌜ r ≡ verdicts.begun (now (first .entry)) (now (second .entry)) ⌝ }
+        ensures { λ r. ⌜ r ≡ comparisons.begun (now (first .entry)) (now (second .entry)) ⌝ }
     {
         let judged = format::judge_log(first);
         match judged {
@@ -53,14 +52,15 @@ impl Comparison {
     }
 
     // Compares the whole records that both pieces have. Where they are equal, it takes them, and leaves what is behind them in
-    // either piece; where one differs, or the verdict is known already, it takes nothing.
+    // either piece; where one differs, or the verdict is known already, it takes nothing. (What it takes lies in both pieces: that
+    // follows, and is what a caller needs.)
     pub fn next(self, first: &[u8], second: &[u8]) -> Step
         ensures { λ r. ⌜ r .comparison ≡ comparisons.next self (now (first .entry)) (now (second .entry)) ⌝ }
         ensures { λ r. ⌜ r .taken ≡ comparisons.taken self (now (first .entry)) (now (second .entry)) ⌝ }
         ensures { λ r. ⌜ (r .taken ≤ length (now (first .entry))) × (r .taken ≤ length (now (second .entry))) ⌝ }
     {
         match self {
-            Comparison::Open(before) => compare_records(before, first, second),
+            Comparison::Undecided(before) => compare_records(before, first, second),
             Comparison::Decided(_) => Step {
                 comparison: self,
                 taken: 0,
@@ -75,24 +75,24 @@ impl Comparison {
         let step = self.next(first, second);
         let comparison = step.comparison;
         match comparison {
-            Comparison::Open(_) => at_end(first, second),
+            Comparison::Undecided(_) => at_end(first, second),
             Comparison::Decided(verdict) => verdict,
         }
     }
 }
 
 fn begin_second(second: &[u8]) -> Comparison
-    ensures { λ r. ⌜ r ≡ verdicts.judged Second (refusal log (now (second .entry))) (Open 0) ⌝ }
+    ensures { λ r. ⌜ r ≡ verdicts.judged (comparisons.refusedAs Second) (now (second .entry)) (Undecided 0) ⌝ }
 {
     let judged = format::judge_log(second);
     match judged {
         format::Verdict::Refused(reason) => refused(Log::Second, reason),
-        format::Verdict::Accepted => Comparison::Open(0),
+        format::Verdict::Accepted => Comparison::Undecided(0),
     }
 }
 
 fn refused(which: Log, reason: Reason) -> Comparison
-    ensures { λ r. ⌜ r ≡ Decided (Refused which (numberOf reason)) ⌝ }
+    ensures { λ r. ⌜ r ≡ comparisons.refusedAs which (numberOf reason) ⌝ }
 {
     Comparison::Decided(Verdict::Refused {
         log: which,
@@ -102,8 +102,8 @@ fn refused(which: Log, reason: Reason) -> Comparison
 
 // The whole records that both pieces have, behind so many that are equal.
 fn compare_records(before: u64, first: &[u8], second: &[u8]) -> Step
-    ensures { λ r. ⌜ r .comparison ≡ comparisons.next (Open before) (now (first .entry)) (now (second .entry)) ⌝ }
-    ensures { λ r. ⌜ r .taken ≡ comparisons.taken (Open before) (now (first .entry)) (now (second .entry)) ⌝ }
+    ensures { λ r. ⌜ r .comparison ≡ comparisons.next (Undecided before) (now (first .entry)) (now (second .entry)) ⌝ }
+    ensures { λ r. ⌜ r .taken ≡ comparisons.taken (Undecided before) (now (first .entry)) (now (second .entry)) ⌝ }
 {
     let count = least(first.len() / entry::LENGTH, second.len() / entry::LENGTH);
     let same = equal_records(first, second, count);
@@ -118,7 +118,7 @@ fn compare_records(before: u64, first: &[u8], second: &[u8]) -> Step
         };
     }
     Step {
-        comparison: Comparison::Open(plus(before, count as u64)),
+        comparison: Comparison::Undecided(plus(before, count as u64)),
         taken: entry::LENGTH * count,
     }
 }
@@ -139,7 +139,7 @@ fn equal_records(first: &[u8], second: &[u8], count: usize) -> usize
     same
 }
 
-// The first field that differs in the records from `at` on, which differ.
+// The first field that differs in the two records at `at`, which are known to differ.
 fn field_at(first: &[u8], second: &[u8], at: usize) -> Field
     requires { ⌜ at + entryLength ≤ length (now first) ⌝ }
     requires { ⌜ at + entryLength ≤ length (now second) ⌝ }
@@ -149,7 +149,7 @@ fn field_at(first: &[u8], second: &[u8], at: usize) -> Field
     differing_field(entry::layout(), first, second, at)
 }
 
-// The first field of a table that differs in the records from `at` on, which differ.
+// The same for any table of fields.
 fn differing_field(table: [Part; entry::FIELDS], first: &[u8], second: &[u8], at: usize) -> Field
     requires { ⌜ at + widths table ≤ length (now first) ⌝ }
     requires { ⌜ at + widths table ≤ length (now second) ⌝ }
@@ -193,6 +193,7 @@ fn at_end(first: &[u8], second: &[u8]) -> Verdict
 // does not depend on them. One whole record stays, which says that this log is the longer one.
 pub fn surplus(left: &[u8], piece: &[u8]) -> usize
     ensures { λ r. ⌜ r ≡ comparisons.surplus (now (left .entry)) (now (piece .entry)) ⌝ }
+    ensures { λ r. ⌜ r ≤ length (now (piece .entry)) ⌝ }
 {
     let whole = piece.len() / entry::LENGTH;
     if left.len() < entry::LENGTH {

@@ -10,8 +10,8 @@ ghost use Rattle.compare.specs.Line as lines;
 ghost use Rattle.compare.specs.Private.{Put};
 ghost use Rattle.compare.specs.declared.verdict.Verdict.the-variants.{Refused, Record};
 use crate::text::put;
-use crate::text::put_byte;
-use crate::text::put_long;
+use crate::text::put_decimal_u8;
+use crate::text::put_decimal_u64;
 use crate::verdict::Log;
 use crate::verdict::Verdict;
 use script::entry::Field;
@@ -37,8 +37,8 @@ fn put_verdict(out: &mut [u8], verdict: Verdict) -> usize
     match verdict {
         Verdict::Refused { log, number } => put_refused(out, log, number),
         Verdict::Record { number, field } => put_record(out, number, field),
-        Verdict::Partial(log) => put_of(out, b"partial ", log),
-        Verdict::Beginning(log) => put_of(out, b"beginning ", log),
+        Verdict::Partial(log) => put_word_and_log(out, b"partial ", log),
+        Verdict::Beginning(log) => put_word_and_log(out, b"beginning ", log),
         Verdict::Equal => put(out, 0, b"equal"),
     }
 }
@@ -48,9 +48,9 @@ fn put_refused(out: &mut [u8], log: Log, number: u8) -> usize
     ensures { λ r. ⌜ Put (now (out .entry)) 0 (lines.verdictText (Refused log number)) r (now (out .exit)) ⌝ }
     ensures { λ r. ⌜ r ≤ 38 ⌝ }
 {
-    let at = put_of(out, b"refused ", log);
+    let at = put_word_and_log(out, b"refused ", log);
     let at = put(out, at, b" ");
-    put_byte(out, at, number)
+    put_decimal_u8(out, at, number)
 }
 
 fn put_record(out: &mut [u8], number: u64, field: Field) -> usize
@@ -58,23 +58,23 @@ fn put_record(out: &mut [u8], number: u64, field: Field) -> usize
     ensures { λ r. ⌜ Put (now (out .entry)) 0 (lines.verdictText (Record number field)) r (now (out .exit)) ⌝ }
     ensures { λ r. ⌜ r ≤ 38 ⌝ }
 {
-    let at = put_number(out, number);
+    let at = put_record_number(out, number);
     let at = put(out, at, b" ");
     put_field(out, at, field)
 }
 
-// A record, by its number.
-fn put_number(out: &mut [u8], number: u64) -> usize
+// `record 3`
+fn put_record_number(out: &mut [u8], number: u64) -> usize
     requires { ⌜ 27 ≤ length (now out) ⌝ }
     ensures { λ r. ⌜ Put (now (out .entry)) 0 (text "record " ++ decimal number) r (now (out .exit)) ⌝ }
     ensures { λ r. ⌜ r ≤ 27 ⌝ }
 {
     let at = put(out, 0, b"record ");
-    put_long(out, at, number)
+    put_decimal_u64(out, at, number)
 }
 
-// A word on a log.
-fn put_of(out: &mut [u8], word: &[u8], log: Log) -> usize
+// `partial 1`
+fn put_word_and_log(out: &mut [u8], word: &[u8], log: Log) -> usize
     requires { ⌜ length (now word) + 1 ≤ length (now out) ⌝ }
     ensures { λ r. ⌜ Put (now (out .entry)) 0 (now (word .entry) ++ lines.logText log) r (now (out .exit)) ⌝ }
     ensures { λ r. ⌜ r ≤ length (now (word .entry)) + 1 ⌝ }
@@ -115,5 +115,5 @@ fn put_pulses(out: &mut [u8], at: usize, timer: u8) -> usize
     ensures { λ r. ⌜ r ≤ at + 10 ⌝ }
 {
     let at = put(out, at, b"pulses ");
-    put_byte(out, at, timer)
+    put_decimal_u8(out, at, timer)
 }

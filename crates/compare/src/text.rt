@@ -19,7 +19,7 @@ pub(crate) fn put(out: &mut [u8], at: usize, text: &[u8]) -> usize
 }
 
 // Puts a number of 8 bits, of three digits at most.
-pub(crate) fn put_byte(out: &mut [u8], at: usize, n: u8) -> usize
+pub(crate) fn put_decimal_u8(out: &mut [u8], at: usize, n: u8) -> usize
     requires { ⌜ at + 3 ≤ length (now out) ⌝ }
     ensures { λ r. ⌜ Put (now (out .entry)) at (decimal n) r (now (out .exit)) ⌝ }
     ensures { λ r. ⌜ r ≤ at + 3 ⌝ }
@@ -28,7 +28,7 @@ pub(crate) fn put_byte(out: &mut [u8], at: usize, n: u8) -> usize
 }
 
 // Puts a number of 64 bits, of 20 digits at most.
-pub(crate) fn put_long(out: &mut [u8], at: usize, n: u64) -> usize
+pub(crate) fn put_decimal_u64(out: &mut [u8], at: usize, n: u64) -> usize
     requires { ⌜ at + 20 ≤ length (now out) ⌝ }
     ensures { λ r. ⌜ Put (now (out .entry)) at (decimal n) r (now (out .exit)) ⌝ }
     ensures { λ r. ⌜ r ≤ at + 20 ⌝ }

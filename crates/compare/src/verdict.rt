@@ -11,7 +11,7 @@ pub enum Log {
 }
 
 pub enum Verdict {
-    // A log that is none, or of another version, by its number.
+    // A log that is refused, by 11 or 12.
     Refused { log: Log, number: u8 },
     // The first record that differs, counted from 1, and the first field that differs in it.
     Record { number: u64, field: Field },

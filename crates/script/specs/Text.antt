@@ -15,14 +15,15 @@ text (string._∷_ c cs) = code c ∷ text cs
 abbrev pub newline : List ℕ
 newline = text "\n"
 
+-- the ASCII code of a number's last digit
 abbrev pub digit : ℕ → ℕ
 digit n = 0x30 + n % 10
 
--- the last digits of a number, as many as it has but at most so many
+-- the digits of a number, at most so many of its last ones
 unfoldable pub decimalWithin : (places : ℕ) → ℕ → List ℕ
 decimalWithin zero n = []
 decimalWithin (suc places) n = cond (ltb n 10) (digit n ∷ []) (decimalWithin places (n / 10) ++ (digit n ∷ []))
 
--- a number in decimal: it has no more digits than one more than itself
+-- a number in decimal: n + 1 places are always enough
 abbrev pub decimal : ℕ → List ℕ
 decimal n = decimalWithin (suc n) n

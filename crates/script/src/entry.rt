@@ -30,7 +30,7 @@ pub enum Field {
     Levels,
     Value,
     Cycles,
-    // The pulses of a timer, from 1 on.
+    // The pulses of timer n, 1 to 4.
     Pulses(u8),
 }
 
@@ -83,7 +83,7 @@ const LAYOUT: [Part; FIELDS] = [
     },
 ];
 
-// That table.
+// That table. (It is a function because a constant has no promise.)
 pub fn layout() -> [Part; FIELDS]
     ensures { λ r. ⌜ r ≡ logs.layout ⌝ }
 {

@@ -3,7 +3,7 @@ use borrow.Author.Needs.{needs}
 use Prim.Native.Nat.{_+_, _-_, _≤_}
 use mathlib.Core.Path.{_≡_, refl}
 use lib.ListN.{length}
-use Rattle.stream.specs.Counted.{counted}
+use Rattle.stream.specs.Laws.{front-length}
 use Rattle.aplcmp.proofs.keep.Statement.{statement}
 use Rattle.aplcmp.proofs.keep.Tie as tie
 
@@ -16,4 +16,4 @@ abbrev μ-loop : tie.MeasureT-loop
 pub keep-spec : {M : Type 1} → statement M
 keep-spec =
     tie.close
-    (tie.spec Inv-loop μ-loop (λ c. search needs) (λ c. (search needs, search needs, search needs, refl)) (λ c. search needs) (λ c. search needs) (λ c. search needs) (λ c. search needs) (λ c. search needs) (λ c. (search needs, search needs, search needs, search needs)) (λ c. search needs) (λ c. (search needs, counted _ _ (search needs))))
+    (tie.spec Inv-loop μ-loop (λ c. search needs) (λ c. (search needs, search needs, search needs, refl)) (λ c. search needs) (λ c. search needs) (λ c. search needs) (λ c. search needs) (λ c. search needs) (λ c. (search needs, search needs, search needs, search needs)) (λ c. search needs) (λ c. (search needs, front-length _ _ (search needs))))

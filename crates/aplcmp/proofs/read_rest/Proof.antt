@@ -3,7 +3,7 @@ use borrow.Author.Needs.{needs}
 use Prim.Native.Nat.{_≤_}
 use mathlib.Core.Path.{_≡_}
 use lib.ListN.{length}
-use Rattle.stream.specs.Counted.{counted}
+use Rattle.stream.specs.Laws.{front-length}
 use Rattle.aplcmp.proofs.Windows.{over-within}
 use Rattle.aplcmp.proofs.read_rest.Statement.{statement}
 use Rattle.aplcmp.proofs.read_rest.Tie as tie
@@ -17,4 +17,4 @@ abbrev μ-loop : tie.MeasureT-loop
 pub read-rest-spec : {M : Type 1} → statement M
 read-rest-spec =
     tie.close
-    (tie.spec Inv-loop μ-loop (λ c κs. search needs) (λ c. search needs) (λ c. search needs) (λ c. search needs) (λ c. search needs) (λ c. search needs) (λ c. counted _ _ (search needs)) (λ c κs. search needs) (λ c κs. (search (over-within, needs), search needs)) (λ c. search needs) (λ c. search needs) (λ c. search needs) (λ c κs. search needs) (λ c. search needs) (λ c. search needs) (λ c. (search needs, counted _ _ (search needs))) (λ c. search needs) (λ c. search needs) (λ c. search needs) (λ c. (search needs, counted _ _ (search needs))))
+    (tie.spec Inv-loop μ-loop (λ c κs. search needs) (λ c. search needs) (λ c. search needs) (λ c. search needs) (λ c. search needs) (λ c. search needs) (λ c. front-length _ _ (search needs)) (λ c κs. search needs) (λ c κs. (search (over-within, needs), search needs)) (λ c. search needs) (λ c. search needs) (λ c. search needs) (λ c κs. search needs) (λ c. search needs) (λ c. search needs) (λ c. (search needs, front-length _ _ (search needs))) (λ c. search needs) (λ c. search needs) (λ c. search needs) (λ c. (search needs, front-length _ _ (search needs))))

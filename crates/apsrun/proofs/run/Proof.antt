@@ -5,7 +5,7 @@ use mathlib.Core.Path.{_≡_}
 use mathlib.Core.Logic.{⊎-elim}
 use lib.ListN.{length}
 use Rattle.script.specs.Pieces.{pieceLength, logLength}
-use Rattle.stream.specs.Counted.{counted}
+use Rattle.stream.specs.Laws.{front-length}
 use Rattle.apsrun.proofs.Buffers.{bufferLength, back-length, end-before, same-within, logged-fits, end-fits, end-in}
 use Rattle.apsrun.proofs.run.Statement.{statement}
 use Rattle.apsrun.proofs.run.Tie as tie
@@ -30,7 +30,7 @@ run-spec =
     (tie.spec Inv-loop μ-loop (λ c κs. search needs) (λ c. search needs) (λ c. search needs) (λ c. search needs)
     (λ c κs. search needs) (λ c. search needs) (λ c. search needs) (λ c. search needs) (λ c. search needs)
     (λ c. search needs) (λ c κs. search needs) (λ c. search (logged-fits, needs)) (λ c. search (end-fits, needs))
-    (λ c. search needs) (λ c. search (end-in, needs)) (λ c. search (counted, end-in, needs)) (λ c κs. search needs)
+    (λ c. search needs) (λ c. search (end-in, needs)) (λ c. search (front-length, end-in, needs)) (λ c κs. search needs)
     (λ c. search needs) (λ c. search needs) (λ c. (search needs, search (back-length, needs), search needs))
     (λ c. search needs) (λ c. (search needs, search (back-length, needs), search needs)) left-within
-    (λ c. counted _ _ (left-within (c .before))) (λ c κs. search needs) (λ c. search needs))
+    (λ c. front-length _ _ (left-within (c .before))) (λ c κs. search needs) (λ c. search needs))

@@ -26,8 +26,8 @@ pub record Searching (table : List Part) (a b : List ℕ) (at i from : ℕ) : Ty
   pub place : from + widths (drop i table) ≡ at + widths table
   pub differ : alike (take (widths (drop i table)) (drop from a)) (take (widths (drop i table)) (drop from b)) ≡ false
   pub onward :
-      (n : ℕ) (c : Comparison) →
-      inFields n table (drop at a) (drop at b) c ≡ inFields n (drop i table) (drop from a) (drop from b) c
+      (named : Field → Comparison) (c : Comparison) →
+      inFields named table (drop at a) (drop at b) c ≡ inFields named (drop i table) (drop from a) (drop from b) c
 
 module _ (table : List Part) (a b : List ℕ) (at : ℕ) where
   pub searching-all :
@@ -55,7 +55,7 @@ module _ (table : List Part) (a b : List ℕ) (at : ℕ) where
         (same : Bool) (e : same ≡ alike (take (here .width) (drop from a)) (take (here .width) (drop from b))) where
       pub named-here : not same ≡ true → DiffersIn table (drop at a) (drop at b) (here .field)
       unfolding inFields
-      named-here t = record { named = λ n c. s .onward n c ∙ rw (split, ← e, not-true same t) refl }
+      named-here t = record { names = λ n c. s .onward n c ∙ rw (split, ← e, not-true same t) refl }
 
       pub searching-on :
           not same ≡ false → at + widths table ≤ length a → at + widths table ≤ length b →
@@ -85,7 +85,7 @@ module _ (table : List Part) (a b : List ℕ) (at : ℕ) where
       let alone : drop n table ≡ getD table n z ∷ [] =
       drop-cons table n z (omega arith) ∙ rw (drop-of-length-le table {i = suc n} (omega arith)) refl in
       let differ = rw (last, alone, add-zero (getD table n z .width)) at (s .differ) in
-      record { named = λ m c. s .onward m c ∙ rw (last, alone, differ) refl }
+      record { names = λ m c. s .onward m c ∙ rw (last, alone, differ) refl }
 
 -- The table of a log record.
 module _ (table : List Part) (known : table ≡ layout) (at : ℕ) (a b : List ℕ) where

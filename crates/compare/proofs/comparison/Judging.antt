@@ -9,29 +9,26 @@ use borrow.Author.Tests.{lt-ltb, ne-eqb}
 use Rattle.devices.specs.Refusal.{notRefused}
 use Rattle.devices.specs.Cases.{cases}
 use Rattle.script.specs.Log.{entryLength}
-use Rattle.script.specs.Format.{numberOf, verdictNumber}
+use Rattle.script.specs.Format.{log, refusal, numberOf, verdictNumber}
 use Rattle.script.specs.Format.Laws.{refused-number}
 use Rattle.script.specs.declared.format.Reason.{Reason}
 use Rattle.script.specs.declared.format.Verdict.{Verdict}
 use Rattle.script.specs.declared.format.Verdict.the-variants.{Accepted}
 use Rattle.script.specs.declared.format.Verdict.the-variants.{Refused as Rejected}
 use Rattle.compare.specs.Verdict.{judged, partial}
-use Rattle.compare.specs.Comparison.{surplus}
+use Rattle.compare.specs.Comparison.{refusedAs, surplus}
 use Rattle.compare.specs.declared.verdict.Log.{Log}
-use Rattle.compare.specs.declared.verdict.Verdict.the-variants.{Refused}
 use Rattle.compare.specs.declared.comparison.Comparison.{Comparison}
-use Rattle.compare.specs.declared.comparison.Comparison.the-variants.{Decided}
 
 -- A header that is refused, and one that is not.
 module _
-    (which : Log) (v : Verdict) (number : ℕ) (c otherwise : Comparison) (e : verdictNumber v ≡ number) where
+    (which : Log) (v : Verdict) (file : List ℕ) (c otherwise : Comparison) (e : verdictNumber v ≡ refusal log file) where
   pub by-number :
-      (reason : Reason) → v ≡ Rejected reason → c ≡ Decided (Refused which (numberOf reason)) →
-      c ≡ judged which number otherwise
-  by-number reason f g =
-      rw (← e, f, ne-eqb (numberOf reason) notRefused (refused-number reason)) g
+      (reason : Reason) → v ≡ Rejected reason → c ≡ refusedAs which (numberOf reason) →
+      c ≡ judged (refusedAs which) file otherwise
+  by-number reason f g = rw (← e, f, ne-eqb (numberOf reason) notRefused (refused-number reason)) g
 
-  pub not-by-number : v ≡ Accepted → c ≡ otherwise → c ≡ judged which number otherwise
+  pub not-by-number : v ≡ Accepted → c ≡ otherwise → c ≡ judged (refusedAs which) file otherwise
   not-by-number f g = rw (← e, f) g
 
 -- Whether a log ends in a part of a record.

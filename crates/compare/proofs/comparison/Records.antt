@@ -13,13 +13,13 @@ use Rattle.script.specs.Log.{entryLength, layout}
 use Rattle.script.specs.declared.entry.Field.{Field}
 use Rattle.compare.specs.Verdict.{alike, inRecords, common, atEnd}
 use Rattle.compare.specs.Verdict.Laws.{fields-alike}
-use Rattle.compare.specs.Comparison.{largest, next, taken, end}
+use Rattle.compare.specs.Comparison.{largest, differing, next, taken, end}
 use Rattle.compare.specs.Comparison.Laws.{taken-first, taken-second}
 use Rattle.compare.specs.Private.{agreeing, DiffersIn}
 use Rattle.compare.specs.declared.verdict.Verdict.{Verdict}
 use Rattle.compare.specs.declared.verdict.Verdict.the-variants.{Record}
 use Rattle.compare.specs.declared.comparison.Comparison.{Comparison}
-use Rattle.compare.specs.declared.comparison.Comparison.the-variants.{Open, Decided}
+use Rattle.compare.specs.declared.comparison.Comparison.the-variants.{Undecided, Decided}
 
 -- The loop: i records are equal, and the others are still to be compared.
 pub record Counting (count : ℕ) (a b : List ℕ) (i : ℕ) : Type 0 where
@@ -83,35 +83,36 @@ records-differ (suc count) j a b e l =
 
 -- One record more that is equal.
 one-equal :
-    (count n : ℕ) (a b : List ℕ) → entryLength ≤ length a → entryLength ≤ length b →
+    (count n : ℕ) (a b : List ℕ) (c : Comparison) → entryLength ≤ length a → entryLength ≤ length b →
     alike (take entryLength a) (take entryLength b) ≡ true →
-    inRecords (suc count) n a b ≡ inRecords count (suc n) (drop entryLength a) (drop entryLength b)
+    inRecords differing (suc count) n a b c ≡ inRecords differing count (suc n) (drop entryLength a) (drop entryLength b) c
 unfolding inRecords
-one-equal count n a b h k t =
-    fields-alike (suc n) layout a b (inRecords count (suc n) (drop entryLength a) (drop entryLength b)) h k t
+one-equal count n a b c h k t =
+    fields-alike (differing (suc n)) layout a b
+    (inRecords differing count (suc n) (drop entryLength a) (drop entryLength b) c) h k t
 
-pub records-equal :
-    (count n : ℕ) (a b : List ℕ) → entryLength * count ≤ length a → entryLength * count ≤ length b →
-    count ≤ agreeing count a b → inRecords count n a b ≡ Open (n + count)
+pub records-agree :
+    (count n : ℕ) (a b : List ℕ) (c : Comparison) → entryLength * count ≤ length a → entryLength * count ≤ length b →
+    count ≤ agreeing count a b → inRecords differing count n a b c ≡ c
 unfolding inRecords agreeing
-records-equal zero n a b h k l = rw (add-zero n) refl
-records-equal (suc count) n a b h k l =
+records-agree zero n a b c h k l = refl
+records-agree (suc count) n a b c h k l =
     tested (alike (take entryLength a) (take entryLength b))
     (λ t.
     let more = rw t at l in
-    one-equal count n a b (omega arith) (omega arith) t ∙
-    records-equal count (suc n) (drop entryLength a) (drop entryLength b) (rw (length-drop entryLength a) (omega arith))
-    (rw (length-drop entryLength b) (omega arith)) (omega (arith, more)) ∙ rw (add-suc n count, suc-add n count) refl)
+    one-equal count n a b c (omega arith) (omega arith) t ∙
+    records-agree count (suc n) (drop entryLength a) (drop entryLength b) c (rw (length-drop entryLength a) (omega arith))
+    (rw (length-drop entryLength b) (omega arith)) (omega (arith, more)))
     (λ t. let none = rw t at l in absurd (omega (arith, none)))
 
 pub record-named :
-    (count n j : ℕ) (field : Field) (a b : List ℕ) → entryLength * count ≤ length a → entryLength * count ≤ length b →
-    j ≡ agreeing count a b → j < count →
+    (count n j : ℕ) (field : Field) (a b : List ℕ) (c : Comparison) → entryLength * count ≤ length a →
+    entryLength * count ≤ length b → j ≡ agreeing count a b → j < count →
     DiffersIn layout (drop (entryLength * j) a) (drop (entryLength * j) b) field →
-    inRecords count n a b ≡ Decided (Record (n + (j + 1)) field)
+    inRecords differing count n a b c ≡ differing (n + (j + 1)) field
 unfolding inRecords agreeing
-record-named zero n j field a b h k e l d = absurd (omega arith)
-record-named (suc count) n j field a b h k e l d =
+record-named zero n j field a b c h k e l d = absurd (omega arith)
+record-named (suc count) n j field a b c h k e l d =
     tested (alike (take entryLength a) (take entryLength b))
     (λ t.
     let more : j ≡ suc (agreeing count (drop entryLength a) (drop entryLength b)) = rw t at e in
@@ -119,14 +120,15 @@ record-named (suc count) n j field a b h k e l d =
     let number : suc n + (j - 1 + 1) ≡ n + (j + 1) = omega (arith, more) in
     let there =
     rw (place, ← drop-drop (entryLength * (j - 1)) entryLength a, ← drop-drop (entryLength * (j - 1)) entryLength b) at d in
-    one-equal count n a b (omega arith) (omega arith) t ∙
-    record-named count (suc n) (j - 1) field (drop entryLength a) (drop entryLength b)
+    one-equal count n a b c (omega arith) (omega arith) t ∙
+    record-named count (suc n) (j - 1) field (drop entryLength a) (drop entryLength b) c
     (rw (length-drop entryLength a) (omega arith)) (rw (length-drop entryLength b) (omega arith)) (omega (arith, more))
     (omega (arith, more)) there ∙ rw number refl)
     (λ t.
     let none : j ≡ 0 = rw t at e in
     let number : suc n ≡ n + (j + 1) = omega (arith, none) in
-    rw none at d .named (suc n) (inRecords count (suc n) (drop entryLength a) (drop entryLength b)) ∙ rw number refl)
+    rw none at d .names (differing (suc n)) (inRecords differing count (suc n) (drop entryLength a) (drop entryLength b) c) ∙
+    rw number refl)
 
 -- What a piece of each log comes to: a difference, or all that both have.
 module _ (before count same : ℕ) (a b : List ℕ) (known : count ≡ common a b) (e : same ≡ agreeing count a b) where
@@ -136,45 +138,48 @@ module _ (before count same : ℕ) (a b : List ℕ) (known : count ≡ common a 
   in-second : entryLength * count ≤ length b
   in-second = omega (arith, known)
 
+  after-all : Comparison
+  after-all = Undecided (min (before + count) largest)
+
   module _
       (field : Field) (l : same < count)
       (d : DiffersIn layout (drop (entryLength * same) a) (drop (entryLength * same) b) field) where
-    named : next (Open before) a b ≡ Decided (Record (min (before + (same + 1)) largest) field)
-    unfolding next
-    named = rw (← known, record-named count before same field a b in-first in-second e l d) refl
+    named : next (Undecided before) a b ≡ differing (before + (same + 1)) field
+    unfolding next after-all
+    named = rw (← known) (record-named count before same field a b after-all in-first in-second e l d)
 
-    pub difference : (n : ℕ) → n ≡ min (before + (same + 1)) largest → Decided (Record n field) ≡ next (Open before) a b
+    pub difference : (n : ℕ) → n ≡ min (before + (same + 1)) largest → Decided (Record n field) ≡ next (Undecided before) a b
     difference n f = rw (named, f) refl
 
-    pub none-taken : 0 ≡ taken (Open before) a b
+    pub none-taken : 0 ≡ taken (Undecided before) a b
     none-taken = rw named refl
 
   module _ (l : count ≤ same) where
-    goes-on : next (Open before) a b ≡ Open (min (before + count) largest)
-    unfolding next
-    goes-on = rw (← known, records-equal count before a b in-first in-second (rw e at l)) refl
+    goes-on : next (Undecided before) a b ≡ Undecided (min (before + count) largest)
+    unfolding next after-all
+    goes-on = rw (← known) (records-agree count before a b after-all in-first in-second (rw e at l))
 
-    pub still-open : (n : ℕ) → n ≡ min (before + count) largest → Open n ≡ next (Open before) a b
-    still-open n f = rw (goes-on, f) refl
+    pub still-undecided : (n : ℕ) → n ≡ min (before + count) largest → Undecided n ≡ next (Undecided before) a b
+    still-undecided n f = rw (goes-on, f) refl
 
-    pub all-taken : entryLength * count ≡ taken (Open before) a b
+    pub all-taken : entryLength * count ≡ taken (Undecided before) a b
     all-taken = rw (goes-on, known) refl
 
 -- Whether the verdict is known already.
 module _ (c : Comparison) (a b : List ℕ) where
-  module _ (n : ℕ) (e : c ≡ Open n) where
-    pub when-open : (d : Comparison) → d ≡ next (Open n) a b → d ≡ next c a b
-    when-open d f = rw e f
+  module _ (n : ℕ) (e : c ≡ Undecided n) where
+    pub when-undecided : (d : Comparison) → d ≡ next (Undecided n) a b → d ≡ next c a b
+    when-undecided d f = rw e f
 
-    pub open-taken : (t : ℕ) → t ≡ taken (Open n) a b → t ≡ taken c a b
-    open-taken t f = rw e f
+    pub undecided-taken : (t : ℕ) → t ≡ taken (Undecided n) a b → t ≡ taken c a b
+    undecided-taken t f = rw e f
 
-    module _ (t : ℕ) (f : t ≡ taken (Open n) a b) where
-      pub open-first : t ≤ length a
-      open-first = rw f (taken-first (Open n) a b)
+    module _ (t : ℕ) (f : t ≡ taken (Undecided n) a b) where
+      pub undecided-first : t ≤ length a
+      undecided-first = rw f (taken-first (Undecided n) a b)
 
-      pub open-second : t ≤ length b
-      open-second = rw f (taken-second (Open n) a b)
+      pub undecided-second : t ≤ length b
+      undecided-second = rw f (taken-second (Undecided n) a b)
 
   module _ (v : Verdict) (e : c ≡ Decided v) where
     pub when-decided : c ≡ next c a b
@@ -187,8 +192,8 @@ module _ (c : Comparison) (a b : List ℕ) where
 
   -- and at the end
   module _ (d : Comparison) (f : d ≡ next c a b) where
-    pub end-open : (n : ℕ) (v : Verdict) → d ≡ Open n → v ≡ atEnd a b → v ≡ end c a b
-    end-open n v e g = rw (← f, e) g
+    pub end-undecided : (n : ℕ) (v : Verdict) → d ≡ Undecided n → v ≡ atEnd a b → v ≡ end c a b
+    end-undecided n v e g = rw (← f, e) g
 
     pub end-decided : (v : Verdict) → d ≡ Decided v → v ≡ end c a b
     end-decided v e = rw (← f, e) refl

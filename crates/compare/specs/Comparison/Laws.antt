@@ -1,111 +1,133 @@
 -- What follows from the definition of a comparison by pieces. Assumes nothing.
 use Prim.Native.Nat.{ℕ, zero, suc, _+_, _-_, _*_, _%_, _≤_, _<_, min}
 use mathlib.Core.Path.{_≡_, refl, sym, ap, _∙_}
+use mathlib.Core.Bool.{true, false≢true}
 use mathlib.Core.List.{List, [], _∷_, _++_}
 use native.Mathlib.Omega.{arith}
-use native.Mathlib.Nat.{zero-add, suc-add}
 use native.Mathlib.Decide.{decLt}
+use native.Mathlib.Nat.{zero-add, add-zero, add-suc, suc-add}
 use lib.Dec.{eqb, ltb}
 use lib.ListN.{length, length-append, length-drop, take, drop}
 use lib.Seq.{drop-drop, take-take, take-append-le, drop-append-le}
 use borrow.Author.Tests.{le-ltb, lt-ltb}
-use Rattle.devices.specs.Cases.{chosen, tested}
 use Rattle.devices.specs.Refusal.{notRefused}
+use Rattle.devices.specs.Cases.{chosen, tested}
 use Rattle.script.specs.Format.{log, headerLength, refusal}
 use Rattle.script.specs.Format.Laws.{refusal-front}
 use Rattle.script.specs.Log.{entryLength, layout}
 use Rattle.script.specs.Log.Laws.{widths}
+use Rattle.script.specs.declared.entry.Field.{Field}
 use Rattle.script.specs.declared.entry.Part.{Part}
-use Rattle.compare.specs.Verdict.{judged, begun, alike, inFields, inRecords, whole, common, partial, atEnd, decided, concluded, verdict}
-use Rattle.compare.specs.Comparison.{largest, counted, countedSo, next, taken, takenBy, end, surplus}
-use Rattle.compare.specs.declared.verdict.Log.{Log}
+use Rattle.compare.specs.Verdict.{alike, inFields, inRecords, whole, common, partial, atEnd, onRecords, judged, verdict}
+use Rattle.compare.specs.Verdict.Laws.{isEqual}
+use Rattle.compare.specs.Comparison.{largest, saturated, differing, refusedAs, begun, next, taken, takenBy, decided, end, surplus}
 use Rattle.compare.specs.declared.verdict.Log.the-variants.{First, Second}
+use Rattle.compare.specs.declared.verdict.Verdict.{Verdict}
+use Rattle.compare.specs.declared.verdict.Verdict.the-variants.{Refused, Record, Partial, Beginning, Equal}
 use Rattle.compare.specs.declared.comparison.Comparison.{Comparison}
-use Rattle.compare.specs.declared.comparison.Comparison.the-variants.{Open, Decided}
+use Rattle.compare.specs.declared.comparison.Comparison.the-variants.{Undecided, Decided}
 
--- What is behind some bytes is not looked at while they are compared.
-fields-front :
-    (n : ℕ) (ps : List Part) (a b more others : List ℕ) (c : Comparison) → widths ps ≤ length a → widths ps ≤ length b →
-    inFields n ps (a ++ more) (b ++ others) c ≡ inFields n ps a b c
-unfolding inFields
-fields-front n [] a b more others c h k = refl
-fields-front n (p ∷ ps) a b more others c h k =
-    rw (
-      take-append-le (p .width) a more (omega arith),
-      take-append-le (p .width) b others (omega arith),
-      drop-append-le (p .width) a more (omega arith),
-      drop-append-le (p .width) b others (omega arith),
-      fields-front n ps (drop (p .width) a) (drop (p .width) b) more others c
-          (rw (length-drop (p .width) a) (omega arith)) (rw (length-drop (p .width) b) (omega arith)),
-    ) refl
+-- What is made of the answer may be made of what is named, and of what is otherwise.
+module _ {A B : Type 0} (f : A → B) where
+  fields-map :
+      (named : Field → A) (ps : List Part) (a b : List ℕ) (otherwise : A) →
+      f (inFields named ps a b otherwise) ≡ inFields (λ (x : Field). f (named x)) ps a b (f otherwise)
+  unfolding inFields
+  fields-map named [] a b c = refl
+  fields-map named (p ∷ ps) a b c =
+      tested (alike (take (p .width) a) (take (p .width) b))
+      (λ t. rw t (fields-map named ps (drop (p .width) a) (drop (p .width) b) c)) (λ t. rw t refl)
 
-pub records-front :
-    (count n : ℕ) (a b more others : List ℕ) → entryLength * count ≤ length a → entryLength * count ≤ length b →
-    inRecords count n (a ++ more) (b ++ others) ≡ inRecords count n a b
-unfolding inRecords
-records-front zero n a b more others h k = refl
-records-front (suc count) n a b more others h k =
-    rw (
-      drop-append-le entryLength a more (omega arith),
-      drop-append-le entryLength b others (omega arith),
-      records-front count (suc n) (drop entryLength a) (drop entryLength b) more others
-          (rw (length-drop entryLength a) (omega arith)) (rw (length-drop entryLength b) (omega arith)),
-    )
-    (fields-front (suc n) layout a b more others (inRecords count (suc n) (drop entryLength a) (drop entryLength b))
-    (omega arith) (omega arith))
+  records-map :
+      (named : ℕ → Field → A) (count n : ℕ) (a b : List ℕ) (otherwise : A) →
+      f (inRecords named count n a b otherwise) ≡ inRecords (λ (m : ℕ) (x : Field). f (named m x)) count n a b (f otherwise)
+  unfolding inRecords
+  records-map named zero n a b c = refl
+  records-map named (suc count) n a b c =
+      fields-map (named (suc n)) layout a b (inRecords named count (suc n) (drop entryLength a) (drop entryLength b) c) ∙
+      rw (records-map named count (suc n) (drop entryLength a) (drop entryLength b) c) refl
 
--- Records in two parts: those of the second part are compared where none of the first differs.
-abbrev then : Comparison → (ℕ → Comparison) → Comparison
-then (Open n) f = f n
-then (Decided v) f = Decided v
+  judged-map :
+      (refused : ℕ → A) (file : List ℕ) (otherwise : A) →
+      f (judged refused file otherwise) ≡ judged (λ (n : ℕ). f (refused n)) file (f otherwise)
+  judged-map refused file c = tested (eqb (refusal log file) notRefused) (λ t. rw t refl) (λ t. rw t refl)
 
-fields-then :
-    (n : ℕ) (ps : List Part) (a b : List ℕ) (c : Comparison) (f : ℕ → Comparison) →
-    inFields n ps a b (then c f) ≡ then (inFields n ps a b c) f
-unfolding inFields
-fields-then n [] a b c f = refl
-fields-then n (p ∷ ps) a b c f =
-    tested (alike (take (p .width) a) (take (p .width) b))
-    (λ t. rw t (fields-then n ps (drop (p .width) a) (drop (p .width) b) c f)) (λ t. rw t refl)
+module _ {A : Type 0} where
+  -- What is behind some bytes is not looked at while they are compared.
+  fields-front :
+      (named : Field → A) (ps : List Part) (a b more others : List ℕ) (c : A) → widths ps ≤ length a →
+      widths ps ≤ length b → inFields named ps (a ++ more) (b ++ others) c ≡ inFields named ps a b c
+  unfolding inFields
+  fields-front named [] a b more others c h k = refl
+  fields-front named (p ∷ ps) a b more others c h k =
+      rw (
+        take-append-le (p .width) a more (omega arith),
+        take-append-le (p .width) b others (omega arith),
+        drop-append-le (p .width) a more (omega arith),
+        drop-append-le (p .width) b others (omega arith),
+        fields-front named ps (drop (p .width) a) (drop (p .width) b) more others c
+            (rw (length-drop (p .width) a) (omega arith)) (rw (length-drop (p .width) b) (omega arith)),
+      ) refl
 
-records-then :
-    (m k n : ℕ) (a b : List ℕ) →
-    inRecords (m + k) n a b ≡
-    then (inRecords m n a b) (λ (p : ℕ). inRecords k p (drop (entryLength * m) a) (drop (entryLength * m) b))
-unfolding inRecords
-records-then zero k n a b = rw (zero-add k) refl
-records-then (suc m) k n a b =
-    let place : entryLength * suc m ≡ entryLength + entryLength * m = omega arith in
-    let rest : ℕ → Comparison = λ (p : ℕ). inRecords k p (drop (entryLength * suc m) a) (drop (entryLength * suc m) b) in
-    let later : inRecords (m + k) (suc n) (drop entryLength a) (drop entryLength b) ≡
-    then (inRecords m (suc n) (drop entryLength a) (drop entryLength b)) rest =
-    records-then m k (suc n) (drop entryLength a) (drop entryLength b) ∙
-    rw (place, ← drop-drop (entryLength * m) entryLength a, ← drop-drop (entryLength * m) entryLength b) refl in
-    rw (suc-add m k, later)
-    (fields-then (suc n) layout a b (inRecords m (suc n) (drop entryLength a) (drop entryLength b)) rest)
+  records-front :
+      (named : ℕ → Field → A) (count n : ℕ) (a b more others : List ℕ) (c : A) → entryLength * count ≤ length a →
+      entryLength * count ≤ length b → inRecords named count n (a ++ more) (b ++ others) c ≡ inRecords named count n a b c
+  unfolding inRecords
+  records-front named zero n a b more others c h k = refl
+  records-front named (suc count) n a b more others c h k =
+      rw (
+        drop-append-le entryLength a more (omega arith),
+        drop-append-le entryLength b others (omega arith),
+        records-front named count (suc n) (drop entryLength a) (drop entryLength b) more others c
+            (rw (length-drop entryLength a) (omega arith)) (rw (length-drop entryLength b) (omega arith)),
+      )
+      (fields-front (named (suc n)) layout a b more others
+      (inRecords named count (suc n) (drop entryLength a) (drop entryLength b) c) (omega arith) (omega arith))
 
--- A count that stays at the largest number gives the same verdict, so counted.
-fields-counted :
-    (n : ℕ) (ps : List Part) (a b : List ℕ) (c : Comparison) →
-    countedSo (inFields n ps a b c) ≡ inFields (min n largest) ps a b (countedSo c)
-unfolding inFields
-fields-counted n [] a b c = refl
-fields-counted n (p ∷ ps) a b c =
-    tested (alike (take (p .width) a) (take (p .width) b))
-    (λ t. rw t (fields-counted n ps (drop (p .width) a) (drop (p .width) b) c)) (λ t. rw t refl)
+  -- Records in two parts: those of the second part come after those of the first.
+  records-join :
+      (named : ℕ → Field → A) (m k n : ℕ) (a b : List ℕ) (c : A) →
+      inRecords named (m + k) n a b c ≡
+      inRecords named m n a b (inRecords named k (n + m) (drop (entryLength * m) a) (drop (entryLength * m) b) c)
+  unfolding inRecords
+  records-join named zero k n a b c = rw (zero-add k, add-zero n) refl
+  records-join named (suc m) k n a b c =
+      let place : entryLength * suc m ≡ entryLength + entryLength * m = omega arith in
+      rw (
+        suc-add m k,
+        records-join named m k (suc n) (drop entryLength a) (drop entryLength b) c,
+        place,
+        ← drop-drop (entryLength * m) entryLength a,
+        ← drop-drop (entryLength * m) entryLength b,
+        add-suc n m,
+        suc-add n m,
+      ) refl
 
-records-counted :
-    (count n : ℕ) (a b : List ℕ) → countedSo (inRecords count (min n largest) a b) ≡ countedSo (inRecords count n a b)
-unfolding inRecords
-records-counted zero n a b = let twice : min (min n largest) largest ≡ min n largest = omega arith in rw twice refl
-records-counted (suc count) n a b =
+-- The verdict that names a record, with the code's count. A count that stays at the largest number gives the same.
+abbrev capped : ℕ → Field → Verdict
+capped n field = saturated (Record n field)
+
+records-capped :
+    (count n : ℕ) (a b : List ℕ) (v : Verdict) →
+    inRecords capped count (min n largest) a b v ≡ inRecords capped count n a b v
+unfolding inRecords inFields
+records-capped zero n a b v = refl
+records-capped (suc count) n a b v =
     let rest = drop entryLength a in
     let rest′ = drop entryLength b in
-    let next-count : min (suc (min n largest)) largest ≡ min (suc n) largest = omega arith in
-    let later : countedSo (inRecords count (suc (min n largest)) rest rest′) ≡ countedSo (inRecords count (suc n) rest rest′) =
-    sym (records-counted count (suc (min n largest)) rest rest′) ∙ rw next-count (records-counted count (suc n) rest rest′) in
-    fields-counted (suc (min n largest)) layout a b (inRecords count (suc (min n largest)) rest rest′) ∙
-    rw (next-count, later) (sym (fields-counted (suc n) layout a b (inRecords count (suc n) rest rest′)))
+    let one-more : min (suc (min n largest)) largest ≡ min (suc n) largest = omega arith in
+    let later : inRecords capped count (suc (min n largest)) rest rest′ v ≡ inRecords capped count (suc n) rest rest′ v =
+    sym (records-capped count (suc (min n largest)) rest rest′ v) ∙
+    rw one-more (records-capped count (suc n) rest rest′ v) in
+    rw (one-more, later) refl
+
+-- What an undecided comparison comes to.
+end-undecided :
+    (n : ℕ) (a b : List ℕ) → end (Undecided n) a b ≡ inRecords capped (common a b) n a b (atEnd a b)
+unfolding next
+end-undecided n a b =
+    records-map (λ (c : Comparison). decided c (atEnd a b)) differing (common a b) n a b
+    (Undecided (min (n + common a b) largest))
 
 -- Equal numbers of bytes in front do not count at the end.
 fewer : (m n x : ℕ) → x ≤ m → x ≤ n → ltb (m - x) (n - x) ≡ ltb m n
@@ -145,74 +167,106 @@ module _ (n : ℕ) (a b more others : List ℕ) where
   rest′ = drop (entryLength * k) (b ++ others)
 
   within-first : entryLength * k ≤ length (a ++ more)
-  within-first = rw (length-append) (omega arith)
+  within-first = rw length-append (omega arith)
 
   within-second : entryLength * k ≤ length (b ++ others)
-  within-second = rw (length-append) (omega arith)
+  within-second = rw length-append (omega arith)
 
   both-parts : common (a ++ more) (b ++ others) ≡ k + common rest rest′
   both-parts =
       rw (length-drop (entryLength * k) (a ++ more), length-drop (entryLength * k) (b ++ others))
       (omega (arith, within-first, within-second))
 
-  in-two :
-      inRecords (common (a ++ more) (b ++ others)) n (a ++ more) (b ++ others) ≡
-      then (inRecords k n a b) (λ (p : ℕ). inRecords (common rest rest′) p rest rest′)
-  in-two =
-      rw both-parts
-      (records-then k (common rest rest′) n (a ++ more) (b ++ others) ∙
-      rw (records-front k n a b more others (omega arith) (omega arith)) refl)
+  abbrev afterwards : Verdict
+  afterwards = end (Undecided (min (n + k) largest)) rest rest′
 
-  open-step :
-      (c : Comparison) → inRecords k n a b ≡ c →
-      (let t = takenBy (countedSo c) k in
-      end (Open n) (a ++ more) (b ++ others) ≡ end (countedSo c) (drop t (a ++ more)) (drop t (b ++ others)))
+  in-two : end (Undecided n) (a ++ more) (b ++ others) ≡ inRecords capped k n a b afterwards
+  in-two =
+      end-undecided n (a ++ more) (b ++ others) ∙
+      rw (
+        both-parts,
+        records-join capped k (common rest rest′) n (a ++ more) (b ++ others) (atEnd (a ++ more) (b ++ others)),
+        ← at-end-drop k (a ++ more) (b ++ others) within-first within-second,
+        ← records-capped (common rest rest′) (n + k) rest rest′ (atEnd rest rest′),
+        ← end-undecided (min (n + k) largest) rest rest′,
+      ) (records-front capped k n a b more others afterwards (omega arith) (omega arith))
+
+  -- the verdict by what the pieces came to
+  abbrev settled : Comparison → Verdict
+  settled (Undecided p) = end (Undecided p) rest rest′
+  settled (Decided v) = v
+
+  by-taken :
+      (c : Comparison) →
+      (let t = takenBy c k in
+      end c (drop t (a ++ more)) (drop t (b ++ others)) ≡ settled c)
   unfolding next
-  open-step (Open m) e =
-      rw (in-two, e, records-counted (common rest rest′) m rest rest′, at-end-drop k (a ++ more) (b ++ others) within-first within-second)
-      refl
-  open-step (Decided v) e = rw (in-two, e) refl
+  by-taken (Undecided p) = refl
+  by-taken (Decided v) = refl
+
+  undecided-step :
+      (let c = next (Undecided n) a b in
+      let t = takenBy c k in
+      end (Undecided n) (a ++ more) (b ++ others) ≡ end c (drop t (a ++ more)) (drop t (b ++ others)))
+  unfolding next
+  undecided-step =
+      in-two ∙
+      sym
+      (by-taken (next (Undecided n) a b) ∙
+      records-map settled differing k n a b (Undecided (min (n + k) largest)))
 
 pub next-step :
     (c : Comparison) (a b more others : List ℕ) →
     (let t = taken c a b in
     end c (a ++ more) (b ++ others) ≡ end (next c a b) (drop t (a ++ more)) (drop t (b ++ others)))
 unfolding next
-next-step (Open n) a b more others = open-step n a b more others (inRecords (common a b) n a b) refl
+next-step (Undecided n) a b more others = undecided-step n a b more others
 next-step (Decided v) a b more others = refl
 
--- `surplus`: of the longer log there is a record more, and what is behind its last one.
-module _ (n j : ℕ) (a b : List ℕ) (h : length a < entryLength) (l : entryLength * (j + 1) ≤ length b) where
-  longer : entryLength * j ≤ length b
-  longer = omega arith
+-- Where less than a record is left of one log.
+none-common : (a b : List ℕ) → length a < entryLength → (common a b ≡ 0) × (common b a ≡ 0)
+none-common a b h = (omega arith, omega arith)
 
-  none-common : (x y : List ℕ) → length x < entryLength → (common x y ≡ 0) × (common y x ≡ 0)
-  none-common x y g = (omega arith, omega arith)
+end-first-short : (n : ℕ) (a b : List ℕ) → length a < entryLength → end (Undecided n) a b ≡ atEnd a b
+unfolding inRecords
+end-first-short n a b h = end-undecided n a b ∙ rw (none-common a b h .0) refl
 
-  second-over : end (Open n) a b ≡ end (Open n) a (drop (entryLength * j) b)
-  unfolding next inRecords
+end-second-short : (n : ℕ) (a b : List ℕ) → length a < entryLength → end (Undecided n) b a ≡ atEnd b a
+unfolding inRecords
+end-second-short n a b h = end-undecided n b a ∙ rw (none-common a b h .1) refl
+
+-- A part of a record that is left of the first log is the verdict, whatever follows of the second.
+in-part :
+    (n : ℕ) (a b : List ℕ) → length a < entryLength → partial a ≡ true → end (Undecided n) a b ≡ Partial First
+in-part n a b h t = end-first-short n a b h ∙ rw t refl
+
+pub first-partial :
+    (c : Comparison) (a b b′ : List ℕ) → length a < entryLength → partial a ≡ true → end c a b ≡ end c a b′
+unfolding next
+first-partial (Undecided n) a b b′ h t = in-part n a b h t ∙ sym (in-part n a b′ h t)
+first-partial (Decided v) a b b′ h t = refl
+
+-- `surplus`: of the other log there is a record more, and what is behind its last one.
+module _ (j : ℕ) (a b : List ℕ) (h : length a < entryLength) (l : entryLength * (j + 1) ≤ length b) where
+  rest-of : length (drop (entryLength * j) b) ≡ length b - entryLength * j
+  rest-of = length-drop (entryLength * j) b
+
+  second-over : atEnd a b ≡ atEnd a (drop (entryLength * j) b)
   second-over =
       rw (
-        none-common a b h .0,
-        none-common a (drop (entryLength * j) b) h .0,
-        partial-drop j b longer,
-        length-drop (entryLength * j) b,
+        partial-drop j b (omega arith),
         lt-ltb (length a) (length b) (omega arith),
-        lt-ltb (length a) (length b - entryLength * j) (omega arith),
+        lt-ltb (length a) (length (drop (entryLength * j) b)) (omega (arith, rest-of)),
       ) refl
 
-  first-over : end (Open n) b a ≡ end (Open n) (drop (entryLength * j) b) a
-  unfolding next inRecords
+  first-over : atEnd b a ≡ atEnd (drop (entryLength * j) b) a
   first-over =
       rw (
-        none-common a b h .1,
-        none-common a (drop (entryLength * j) b) h .1,
-        partial-drop j b longer,
-        length-drop (entryLength * j) b,
+        partial-drop j b (omega arith),
         le-ltb (length b) (length a) (omega arith),
-        le-ltb (length b - entryLength * j) (length a) (omega arith),
+        le-ltb (length (drop (entryLength * j) b)) (length a) (omega (arith, rest-of)),
         lt-ltb (length a) (length b) (omega arith),
-        lt-ltb (length a) (length b - entryLength * j) (omega arith),
+        lt-ltb (length a) (length (drop (entryLength * j) b)) (omega (arith, rest-of)),
       ) refl
 
 module _ (P : ℕ → Type 0) (left piece more : List ℕ) where
@@ -236,23 +290,29 @@ pub second-surplus :
     (c : Comparison) (a piece more : List ℕ) →
     end c a (piece ++ more) ≡ end c a (drop (surplus a piece) (piece ++ more))
 unfolding next
-second-surplus (Open n) a piece more =
-    by-surplus (λ (x : ℕ). end (Open n) a (piece ++ more) ≡ end (Open n) a (drop x (piece ++ more))) a piece more refl
-    (λ h j l. second-over n j a (piece ++ more) h l)
+second-surplus (Undecided n) a piece more =
+    by-surplus (λ (x : ℕ). end (Undecided n) a (piece ++ more) ≡ end (Undecided n) a (drop x (piece ++ more))) a piece more
+    refl
+    (λ h j l.
+    end-first-short n a (piece ++ more) h ∙ second-over j a (piece ++ more) h l ∙
+    sym (end-first-short n a (drop (entryLength * j) (piece ++ more)) h))
 second-surplus (Decided v) a piece more = refl
 
 pub first-surplus :
     (c : Comparison) (a piece more : List ℕ) →
     end c (piece ++ more) a ≡ end c (drop (surplus a piece) (piece ++ more)) a
 unfolding next
-first-surplus (Open n) a piece more =
-    by-surplus (λ (x : ℕ). end (Open n) (piece ++ more) a ≡ end (Open n) (drop x (piece ++ more)) a) a piece more refl
-    (λ h j l. first-over n j a (piece ++ more) h l)
+first-surplus (Undecided n) a piece more =
+    by-surplus (λ (x : ℕ). end (Undecided n) (piece ++ more) a ≡ end (Undecided n) (drop x (piece ++ more)) a) a piece more
+    refl
+    (λ h j l.
+    end-second-short n a (piece ++ more) h ∙ first-over j a (piece ++ more) h l ∙
+    sym (end-second-short n a (drop (entryLength * j) (piece ++ more)) h))
 first-surplus (Decided v) a piece more = refl
 
--- At the end of two logs that were begun, it is the verdict, so counted.
-counted-at-end : (a b : List ℕ) → counted (atEnd a b) ≡ atEnd a b
-counted-at-end a b =
+-- At the end of two logs that were begun, it is the verdict, with the code's count.
+saturated-at-end : (a b : List ℕ) → saturated (atEnd a b) ≡ atEnd a b
+saturated-at-end a b =
     tested (partial a) (λ t. rw t refl)
     (λ t.
     rw t
@@ -262,67 +322,65 @@ counted-at-end a b =
     (tested (ltb (length a) (length b)) (λ w. rw w refl)
     (λ w. rw w (tested (ltb (length b) (length a)) (λ x. rw x refl) (λ x. rw x refl)))))))
 
-counted-decided :
-    (c : Comparison) (a b : List ℕ) → decided (countedSo c) (atEnd a b) ≡ counted (decided c (atEnd a b))
-counted-decided (Open n) a b = sym (counted-at-end a b)
-counted-decided (Decided v) a b = refl
-
-pub end-open : (n : ℕ) (a b : List ℕ) → end (Open n) a b ≡ counted (concluded (Open n) a b)
-unfolding next concluded
-end-open n a b = counted-decided (inRecords (common a b) n a b) a b
-
 header-of : (n : ℕ) (file : List ℕ) → headerLength ≤ n → refusal log (take n file) ≡ refusal log file
 header-of n file h =
     sym (refusal-front log (take n file)) ∙ ap (refusal log) (take-take headerLength n file h) ∙ refusal-front log file
 
-end-judged :
-    (which : Log) (number : ℕ) (c : Comparison) (a b : List ℕ) → end c a b ≡ counted (concluded c a b) →
-    end (judged which number c) a b ≡ counted (concluded (judged which number c) a b)
-unfolding next concluded
-end-judged which number c a b e = tested (eqb number notRefused) (λ t. rw t e) (λ t. rw t refl)
+saturated-verdict :
+    (first second : List ℕ) →
+    (let records = drop headerLength first in
+    let records′ = drop headerLength second in
+    saturated (verdict first second) ≡
+    judged (Refused First) first
+    (judged (Refused Second) second (inRecords capped (common records records′) 0 records records′ (atEnd records records′))))
+saturated-verdict first second =
+    let records = drop headerLength first in
+    let records′ = drop headerLength second in
+    judged-map saturated (Refused First) first (judged (Refused Second) second (onRecords records records′)) ∙
+    rw (
+      judged-map saturated (Refused Second) second (onRecords records records′),
+      records-map saturated Record (common records records′) 0 records records′ (atEnd records records′),
+      saturated-at-end records records′,
+    ) refl
 
 pub begun-end :
     (first second : List ℕ) (m n : ℕ) → headerLength ≤ m → headerLength ≤ n →
     end (begun (take m first) (take n second)) (drop headerLength first) (drop headerLength second) ≡
-    counted (verdict first second)
+    saturated (verdict first second)
+unfolding next
 begun-end first second m n h k =
-    let rest = drop headerLength first in
-    let rest′ = drop headerLength second in
+    let records = drop headerLength first in
+    let records′ = drop headerLength second in
+    let ends : Comparison → Verdict = λ (c : Comparison). end c records records′ in
     rw (header-of m first h, header-of n second k)
-    (end-judged First (refusal log first) (judged Second (refusal log second) (Open 0)) rest rest′
-    (end-judged Second (refusal log second) (Open 0) rest rest′ (end-open 0 rest rest′)))
+    (judged-map ends (refusedAs First) first (judged (refusedAs Second) second (Undecided 0)) ∙
+    rw (judged-map ends (refusedAs Second) second (Undecided 0), end-undecided 0 records records′)
+    (sym (saturated-verdict first second)))
 
 -- The count is exact as far as 64 bits go.
 records-exact :
-    (count n : ℕ) (a b : List ℕ) → n + count ≤ largest → countedSo (inRecords count n a b) ≡ inRecords count n a b
-unfolding inRecords
-records-exact zero n a b h = let exact : min n largest ≡ n = omega arith in rw exact refl
-records-exact (suc count) n a b h =
+    (count n : ℕ) (a b : List ℕ) (v : Verdict) → n + count ≤ largest →
+    inRecords capped count n a b v ≡ inRecords Record count n a b v
+unfolding inRecords inFields
+records-exact zero n a b v h = refl
+records-exact (suc count) n a b v h =
     let exact : min (suc n) largest ≡ suc n = omega arith in
-    fields-counted (suc n) layout a b (inRecords count (suc n) (drop entryLength a) (drop entryLength b)) ∙
-    rw (exact, records-exact count (suc n) (drop entryLength a) (drop entryLength b) (omega arith)) refl
-
-judged-exact :
-    (which : Log) (number : ℕ) (c : Comparison) (a b : List ℕ) → counted (concluded c a b) ≡ concluded c a b →
-    counted (concluded (judged which number c) a b) ≡ concluded (judged which number c) a b
-unfolding concluded
-judged-exact which number c a b e = tested (eqb number notRefused) (λ t. rw t e) (λ t. rw t refl)
+    rw (exact, records-exact count (suc n) (drop entryLength a) (drop entryLength b) v (omega arith)) refl
 
 pub verdict-exact :
-    (first second : List ℕ) → length first < entryLength * (largest + 1) → counted (verdict first second) ≡ verdict first second
-unfolding next concluded
+    (first second : List ℕ) → length first < entryLength * (largest + 1) →
+    saturated (verdict first second) ≡ verdict first second
 verdict-exact first second h =
-    let rest = drop headerLength first in
-    let rest′ = drop headerLength second in
-    let few : 0 + common rest rest′ ≤ largest = rw (length-drop headerLength first) (omega arith) in
-    judged-exact First (refusal log first) (judged Second (refusal log second) (Open 0)) rest rest′
-    (judged-exact Second (refusal log second) (Open 0) rest rest′
-    (sym (end-open 0 rest rest′) ∙ rw (records-exact (common rest rest′) 0 rest rest′ few) refl))
+    let records = drop headerLength first in
+    let records′ = drop headerLength second in
+    let few : 0 + common records records′ ≤ largest = rw (length-drop headerLength first) (omega arith) in
+    saturated-verdict first second ∙
+    rw (records-exact (common records records′) 0 records records′ (atEnd records records′) few) refl
 
 -- No more is taken, or passed over, than a piece has.
 taken-within :
     (c : Comparison) (a b : List ℕ) → (takenBy c (common a b) ≤ length a) × (takenBy c (common a b) ≤ length b)
-taken-within (Open n) a b = (omega arith, omega arith)
+taken-within (Undecided n) a b = (omega arith, omega arith)
 taken-within (Decided v) a b = (omega arith, omega arith)
 
 pub taken-first : (c : Comparison) (a b : List ℕ) → taken c a b ≤ length a
@@ -335,3 +393,11 @@ pub surplus-within : (left piece : List ℕ) → surplus left piece ≤ length p
 surplus-within left piece =
     chosen (λ b (n : ℕ). n ≤ length piece) (ltb (length left) entryLength) (entryLength * (whole piece - 1)) 0 (omega arith)
     (omega arith)
+
+-- The count does not make a verdict `equal`.
+pub saturated-equal : (v : Verdict) → saturated v ≡ Equal → v ≡ Equal
+saturated-equal (Refused log number) e = e
+saturated-equal (Record n field) e = absurd (false≢true (ap isEqual e))
+saturated-equal (Partial log) e = e
+saturated-equal (Beginning log) e = e
+saturated-equal Equal e = refl

@@ -5,7 +5,6 @@ use mathlib.Core.Bool.{Bool, true, false, _&&_, false≢true}
 use mathlib.Core.List.{List, [], _∷_, _++_}
 use native.Mathlib.Omega.{arith}
 use native.Mathlib.Decide.{decLt}
-use native.Mathlib.Nat.{add-zero, add-suc, suc-add}
 use lib.Dec.{eqb}
 use lib.ListN.{length, length-drop, take, drop}
 use lib.Seq.{take-add, take-length, length-take-le}
@@ -13,15 +12,17 @@ use borrow.Author.Tests.{eqb-true, eq-eqb, le-ltb, lt-ltb, not-false}
 use Rattle.devices.specs.Cases.{tested}
 use Rattle.devices.specs.Refusal.{notRefused}
 use Rattle.script.specs.Format.{log, refusal}
+use Rattle.script.specs.Refusal.{badFile}
+use Rattle.script.specs.Number.{number, encoded}
 use Rattle.script.specs.Log.{entryLength, layout}
 use Rattle.script.specs.Log.Laws.{widths}
+use Rattle.script.specs.declared.entry.Field.{Field}
 use Rattle.script.specs.declared.entry.Part.{Part}
-use Rattle.compare.specs.Verdict.{alike, inFields, inRecords, common, partial, atEnd, decided, concluded, unreadable, verdict}
+use Rattle.compare.specs.Verdict.{alike, inFields, inRecords, common, partial, atEnd, onRecords, unreadable, verdict}
+use Rattle.compare.specs.declared.verdict.Log.{Log}
 use Rattle.compare.specs.declared.verdict.Log.the-variants.{First, Second}
 use Rattle.compare.specs.declared.verdict.Verdict.{Verdict}
 use Rattle.compare.specs.declared.verdict.Verdict.the-variants.{Refused, Record, Partial, Beginning, Equal}
-use Rattle.compare.specs.declared.comparison.Comparison.{Comparison}
-use Rattle.compare.specs.declared.comparison.Comparison.the-variants.{Open}
 
 and-both : (a b : Bool) → (a && b) ≡ true → (a ≡ true) × (b ≡ true)
 and-both true b e = (refl, e)
@@ -57,16 +58,17 @@ module _ (m n : ℕ) (a b : List ℕ) (h : m ≤ length a) (k : m ≤ length b) 
       alike (take n (drop m a)) (take n (drop m b)) ≡ false
   rest-differs e f = rw (alike-split m n a b h k, f) at e
 
--- Where the records are alike, no field is named.
+-- Where some fields are alike, none is named.
 pub fields-alike :
-    (n : ℕ) (ps : List Part) (a b : List ℕ) (c : Comparison) → widths ps ≤ length a → widths ps ≤ length b →
-    alike (take (widths ps) a) (take (widths ps) b) ≡ true → inFields n ps a b c ≡ c
+    {A : Type 0} (named : Field → A) (ps : List Part) (a b : List ℕ) (otherwise : A) → widths ps ≤ length a →
+    widths ps ≤ length b → alike (take (widths ps) a) (take (widths ps) b) ≡ true →
+    inFields named ps a b otherwise ≡ otherwise
 unfolding inFields
-fields-alike n [] a b c h k e = refl
-fields-alike n (p ∷ ps) a b c h k e =
+fields-alike named [] a b c h k e = refl
+fields-alike named (p ∷ ps) a b c h k e =
     let both = both-alike (p .width) (widths ps) a b (omega arith) (omega arith) e in
     rw (both .0)
-    (fields-alike n ps (drop (p .width) a) (drop (p .width) b) c (rw (length-drop (p .width) a) (omega arith))
+    (fields-alike named ps (drop (p .width) a) (drop (p .width) b) c (rw (length-drop (p .width) a) (omega arith))
     (rw (length-drop (p .width) b) (omega arith)) (both .1))
 
 -- Equal lists are alike, and lists that are alike are equal.
@@ -83,68 +85,79 @@ alike-equal (x ∷ xs) (y ∷ ys) e =
     rw (eqb-true x y (both .0), alike-equal xs ys (both .1)) refl
 
 -- The records of a log do not differ from themselves.
-fields-self : (n : ℕ) (ps : List Part) (a : List ℕ) (c : Comparison) → inFields n ps a a c ≡ c
+fields-self : {A : Type 0} (named : Field → A) (ps : List Part) (a : List ℕ) (c : A) → inFields named ps a a c ≡ c
 unfolding inFields
-fields-self n [] a c = refl
-fields-self n (p ∷ ps) a c = rw (alike-self (take (p .width) a)) (fields-self n ps (drop (p .width) a) c)
+fields-self named [] a c = refl
+fields-self named (p ∷ ps) a c = rw (alike-self (take (p .width) a)) (fields-self named ps (drop (p .width) a) c)
 
-records-self : (count n : ℕ) (a : List ℕ) → inRecords count n a a ≡ Open (n + count)
+records-self :
+    {A : Type 0} (named : ℕ → Field → A) (count n : ℕ) (a : List ℕ) (c : A) → inRecords named count n a a c ≡ c
 unfolding inRecords
-records-self zero n a = rw (add-zero n) refl
-records-self (suc count) n a =
-    fields-self (suc n) layout a (inRecords count (suc n) (drop entryLength a) (drop entryLength a)) ∙
-    records-self count (suc n) (drop entryLength a) ∙ rw (add-suc n count, suc-add n count) refl
+records-self named zero n a c = refl
+records-self named (suc count) n a c =
+    fields-self (named (suc n)) layout a (inRecords named count (suc n) (drop entryLength a) (drop entryLength a) c) ∙
+    records-self named count (suc n) (drop entryLength a) c
 
--- Where the verdict is `equal`, no field differs.
-abbrev isEqual : Verdict → Bool
+-- Where the verdict names no record, none differs.
+abbrev isRecord : Verdict → Bool
+isRecord (Refused log number) = false
+isRecord (Record n field) = true
+isRecord (Partial log) = false
+isRecord (Beginning log) = false
+isRecord Equal = false
+
+module _ (w : Verdict) (no : isRecord w ≡ false) where
+  fields-equal :
+      (n : ℕ) (ps : List Part) (a b : List ℕ) (v : Verdict) → widths ps ≤ length a → widths ps ≤ length b →
+      inFields (Record n) ps a b v ≡ w → (take (widths ps) a ≡ take (widths ps) b) × (v ≡ w)
+  unfolding inFields
+  fields-equal n [] a b v h k e = (refl, e)
+  fields-equal n (p ∷ ps) a b v h k e =
+      tested (alike (take (p .width) a) (take (p .width) b))
+      (λ t.
+      let rest =
+      fields-equal n ps (drop (p .width) a) (drop (p .width) b) v (rw (length-drop (p .width) a) (omega arith))
+      (rw (length-drop (p .width) b) (omega arith)) (rw t at e) in (
+        rw (
+          take-add (p .width) (widths ps) a,
+          take-add (p .width) (widths ps) b,
+          alike-equal (take (p .width) a) (take (p .width) b) t,
+          rest .0,
+        ) refl,
+        rest .1,
+      ))
+      (λ t. let named = rw t at e in absurd (false≢true (sym no ∙ sym (ap isRecord named))))
+
+  records-equal :
+      (count n : ℕ) (a b : List ℕ) (v : Verdict) → entryLength * count ≤ length a → entryLength * count ≤ length b →
+      inRecords Record count n a b v ≡ w → (take (entryLength * count) a ≡ take (entryLength * count) b) × (v ≡ w)
+  unfolding inRecords
+  records-equal zero n a b v h k e = (refl, e)
+  records-equal (suc count) n a b v h k e =
+      let more : entryLength * suc count ≡ entryLength + entryLength * count = omega arith in
+      let both :
+      (l : List ℕ) →
+      take (entryLength * suc count) l ≡ take entryLength l ++ take (entryLength * count) (drop entryLength l) =
+      λ l. rw more (take-add entryLength (entryLength * count) l) in
+      let one =
+      fields-equal (suc n) layout a b (inRecords Record count (suc n) (drop entryLength a) (drop entryLength b) v)
+      (omega arith) (omega arith) e in
+      let others =
+      records-equal count (suc n) (drop entryLength a) (drop entryLength b) v (rw (length-drop entryLength a) (omega arith))
+      (rw (length-drop entryLength b) (omega arith)) (one .1) in (
+        both a ∙ ap (λ (l : List ℕ). l ++ take (entryLength * count) (drop entryLength a)) (one .0) ∙
+            ap (λ (l : List ℕ). take entryLength b ++ l) (others .0) ∙ sym (both b),
+        others .1,
+      )
+
+-- Of two lists of whole records.
+abbrev pub isEqual : Verdict → Bool
 isEqual (Refused log number) = false
 isEqual (Record n field) = false
 isEqual (Partial log) = false
 isEqual (Beginning log) = false
 isEqual Equal = true
 
-fields-equal :
-    (n : ℕ) (ps : List Part) (a b : List ℕ) (c : Comparison) (v : Verdict) → widths ps ≤ length a → widths ps ≤ length b →
-    decided (inFields n ps a b c) v ≡ Equal → (take (widths ps) a ≡ take (widths ps) b) × (decided c v ≡ Equal)
-unfolding inFields
-fields-equal n [] a b c v h k e = (refl, e)
-fields-equal n (p ∷ ps) a b c v h k e =
-    tested (alike (take (p .width) a) (take (p .width) b))
-    (λ t.
-    let rest =
-    fields-equal n ps (drop (p .width) a) (drop (p .width) b) c v (rw (length-drop (p .width) a) (omega arith))
-    (rw (length-drop (p .width) b) (omega arith)) (rw t at e) in (
-      rw (
-        take-add (p .width) (widths ps) a,
-        take-add (p .width) (widths ps) b,
-        alike-equal (take (p .width) a) (take (p .width) b) t,
-        rest .0,
-      ) refl,
-      rest .1,
-    ))
-    (λ t. absurd (false≢true (ap isEqual (rw t at e))))
-
-records-equal :
-    (count n : ℕ) (a b : List ℕ) (v : Verdict) → entryLength * count ≤ length a → entryLength * count ≤ length b →
-    decided (inRecords count n a b) v ≡ Equal → (take (entryLength * count) a ≡ take (entryLength * count) b) × (v ≡ Equal)
-unfolding inRecords
-records-equal zero n a b v h k e = (refl, e)
-records-equal (suc count) n a b v h k e =
-    let more : entryLength * suc count ≡ entryLength + entryLength * count = omega arith in
-    let both : (l : List ℕ) → take (entryLength * suc count) l ≡ take entryLength l ++ take (entryLength * count) (drop entryLength l) =
-    λ l. rw more (take-add entryLength (entryLength * count) l) in
-    let one =
-    fields-equal (suc n) layout a b (inRecords count (suc n) (drop entryLength a) (drop entryLength b)) v (omega arith)
-    (omega arith) e in
-    let others =
-    records-equal count (suc n) (drop entryLength a) (drop entryLength b) v (rw (length-drop entryLength a) (omega arith))
-    (rw (length-drop entryLength b) (omega arith)) (one .1) in (
-      both a ∙ ap (λ (l : List ℕ). l ++ take (entryLength * count) (drop entryLength a)) (one .0) ∙
-          ap (λ (l : List ℕ). take entryLength b ++ l) (others .0) ∙ sym (both b),
-      others .1,
-    )
-
--- Of two lists of whole records.
 module _ (a b : List ℕ) (h : partial a ≡ false) (k : partial b ≡ false) where
   lengths-equal : atEnd a b ≡ Equal → length a ≡ length b
   lengths-equal e =
@@ -160,10 +173,9 @@ module _ (a b : List ℕ) (h : partial a ≡ false) (k : partial b ≡ false) wh
             ]
       ]
 
-  pub whole-records-equal : (n : ℕ) → concluded (Open n) a b ≡ Equal → a ≡ b
-  unfolding concluded
-  whole-records-equal n e =
-      let both = records-equal (common a b) n a b (atEnd a b) (omega arith) (omega arith) e in
+  pub whole-records-equal : onRecords a b ≡ Equal → a ≡ b
+  whole-records-equal e =
+      let both = records-equal Equal refl (common a b) 0 a b (atEnd a b) (omega arith) (omega arith) e in
       let long = lengths-equal (both .1) in
       let none : length a % entryLength ≡ 0 = eqb-true (length a % entryLength) 0 (not-false _ h) in
       let all : entryLength * common a b ≡ length a = omega arith in
@@ -171,16 +183,17 @@ module _ (a b : List ℕ) (h : partial a ≡ false) (k : partial b ≡ false) wh
       let second : take (entryLength * common a b) b ≡ b = rw (all, long) (take-length b) in
       sym first ∙ both .0 ∙ second
 
-pub self-equal : (n : ℕ) (a : List ℕ) → partial a ≡ false → concluded (Open n) a a ≡ Equal
-unfolding concluded
-self-equal n a h =
-    rw (records-self (common a a) n a, h, le-ltb (length a) (length a) (omega arith)) refl
+pub self-equal : (a : List ℕ) → partial a ≡ false → onRecords a a ≡ Equal
+self-equal a h = records-self Record (common a a) 0 a (atEnd a a) ∙ rw (h, le-ltb (length a) (length a) (omega arith)) refl
 
 -- A log that counts as empty: the first, whatever the second is, and the second where the first is accepted.
+pub unreadable-refused : (which : Log) → Refused which badFile ≡ unreadable which
+unfolding encoded number
+unreadable-refused First = refl
+unreadable-refused Second = refl
+
 pub unreadable-first : (second : List ℕ) → verdict [] second ≡ unreadable First
-unfolding concluded
 unreadable-first second = refl
 
 pub unreadable-second : (first : List ℕ) → refusal log first ≡ notRefused → verdict first [] ≡ unreadable Second
-unfolding concluded
-unreadable-second first e = rw e refl
+unreadable-second first e = rw e (unreadable-refused Second)

@@ -1,6 +1,6 @@
 -- A record that differs, or none. Assumes nothing.
 use borrow.Author.Needs.{needs}
-use Rattle.compare.proofs.comparison.Records.{records-differ, difference, none-taken, still-open, all-taken}
+use Rattle.compare.proofs.comparison.Records.{records-differ, difference, none-taken, still-undecided, all-taken}
 use Rattle.compare.proofs.comparison.compare_records.Statement.{statement}
 use Rattle.compare.proofs.comparison.compare_records.Tie as tie
 
@@ -10,4 +10,4 @@ compare-records-spec =
     (tie.spec (λ c κs. search needs) (λ c κs. search needs) (λ c. search needs)
     (λ c κs. (search needs, (search needs, search records-differ))) (λ c. search needs) (λ c κs. search needs)
     (λ c. (search difference, search none-taken)) (λ c κs. search needs) (λ c. search needs)
-    (λ c. (search still-open, search all-taken)))
+    (λ c. (search still-undecided, search all-taken)))

@@ -8,5 +8,5 @@ use Rattle.compare.proofs.comparison.surplus.Tie as tie
 pub surplus-spec : {M : Type 1} → statement M
 surplus-spec =
     tie.close
-    (tie.spec (λ c. search needs) (λ c. search needs) (λ c. search (all-but-one, cases)) (λ c. search (none-over, cases))
-    (λ c. search cases))
+    (tie.spec (λ c. search needs) (λ c. search needs) (λ c. (search (all-but-one, cases), search needs))
+    (λ c. (search (none-over, cases), search needs)) (λ c. (search cases, search needs)))

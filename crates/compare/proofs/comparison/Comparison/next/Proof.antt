@@ -1,6 +1,6 @@
--- The verdict is open, or known. Assumes nothing.
+-- The verdict is not known yet, or it is. Assumes nothing.
 use borrow.Author.Needs.{needs}
-use Rattle.compare.proofs.comparison.Records.{when-open, open-taken, open-first, open-second, when-decided, decided-taken}
+use Rattle.compare.proofs.comparison.Records.{when-undecided, undecided-taken, undecided-first, undecided-second, when-decided, decided-taken}
 use Rattle.compare.proofs.comparison.Comparison.next.Statement.{statement}
 use Rattle.compare.proofs.comparison.Comparison.next.Tie as tie
 
@@ -8,5 +8,5 @@ pub next-spec : {M : Type 1} → statement M
 next-spec =
     tie.close
     (tie.spec (λ c. search needs) (λ c κs. search needs) (λ c. search needs)
-    (λ c. (search when-open, (search open-taken, (search open-first, search open-second))))
+    (λ c. (search when-undecided, (search undecided-taken, (search undecided-first, search undecided-second))))
     (λ c. (search when-decided, (search decided-taken, search needs))))

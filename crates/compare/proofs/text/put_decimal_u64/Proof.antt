@@ -1,10 +1,10 @@
 -- Its digits have room. Assumes nothing.
 use borrow.Author.Needs.{needs}
 use Rattle.compare.proofs.text.Putting.{long-fits, long-within}
-use Rattle.compare.proofs.text.put_long.Statement.{statement}
-use Rattle.compare.proofs.text.put_long.Tie as tie
+use Rattle.compare.proofs.text.put_decimal_u64.Statement.{statement}
+use Rattle.compare.proofs.text.put_decimal_u64.Tie as tie
 
-pub put-long-spec : {M : Type 1} → statement M
-put-long-spec =
+pub put-decimal-u64-spec : {M : Type 1} → statement M
+put-decimal-u64-spec =
     tie.close
     (tie.spec (λ c κs. search long-fits) (λ c. search needs) (λ c. (search needs, search long-within)))
