@@ -499,6 +499,10 @@ for at in (offset(1, 47), offset(3), offset(5000, 9)):
     pair(f"{what}, the first through a pipe that stays open", Pipe(MANY, stays=True), other, line_of(at))
     pair(f"{what}, the second through a pipe that stays open", MANY, Pipe(other, stays=True), line_of(at))
     pair(f"{what}, both through named pipes that stay open", Fifo(MANY, stays=True), Fifo(other, stays=True), line_of(at))
+# So is a partial record at the end of the first log, whatever the second still has.
+for whole in (0, 3, 1365):
+    what, part = f"{whole} records and a byte, 30000 records", log(whole, 1)
+    pair(f"{what} through a pipe that stays open", part, Pipe(MANY, stays=True), "partial 1")
 for bad in (b"APS\x00\x01", b"APL\x00\x02"):
     what, other = f"30000 records behind {bad.hex(' ')} through a pipe that stays open", bad + MANY[5:]
     pair(f"{what}, 3 records", Pipe(other, stays=True), log(3), f"refused 1 {number_of(bad)}")
@@ -639,7 +643,6 @@ for line, logs in LINES.items():
     case(f"{line} with standard output closed", logs, b"", message=True, closed=[1])
     case(f"{line} with standard input closed", logs, line, closed=[0])  # a log has descriptor 0 then
     case(f"{line} with standard error closed", logs, line, closed=[2])
-
 
 
 # 12. Memory: two logs of 50 MB take no more of it than two of 5 bytes, but for 4 MiB of buffers.
