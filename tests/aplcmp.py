@@ -499,10 +499,6 @@ for at in (offset(1, 47), offset(3), offset(5000, 9)):
     pair(f"{what}, the first through a pipe that stays open", Pipe(MANY, stays=True), other, line_of(at))
     pair(f"{what}, the second through a pipe that stays open", MANY, Pipe(other, stays=True), line_of(at))
     pair(f"{what}, both through named pipes that stay open", Fifo(MANY, stays=True), Fifo(other, stays=True), line_of(at))
-# So is a partial record at the end of the first log, whatever the second still has.
-for whole in (0, 3, 1365):
-    what, part = f"{whole} records and a byte, 30000 records", log(whole, 1)
-    pair(f"{what} through a pipe that stays open", part, Pipe(MANY, stays=True), "partial 1")
 for bad in (b"APS\x00\x01", b"APL\x00\x02"):
     what, other = f"30000 records behind {bad.hex(' ')} through a pipe that stays open", bad + MANY[5:]
     pair(f"{what}, 3 records", Pipe(other, stays=True), log(3), f"refused 1 {number_of(bad)}")
@@ -551,6 +547,7 @@ for at in (1000, 70000, 100000, len(DATA)):
     unreadable(f"3000 records, 10 records, with FIRST_EIO_AT={at}", 1, DATA, log(10), faults={"FIRST_EIO_AT": at})
     unreadable(f"3000 records, 10 and a byte, with FIRST_EIO_AT={at}", 1, DATA, log(10, 1), faults={"FIRST_EIO_AT": at})
     unreadable(f"10 records, 3000 records, with SECOND_EIO_AT={at}", 2, log(10), DATA, faults={"SECOND_EIO_AT": at})
+    unreadable(f"10 and a byte, 3000 records, with SECOND_EIO_AT={at}", 2, log(10, 1), DATA, faults={"SECOND_EIO_AT": at})
 for n in (1, 2):  # later reads would not fail
     unreadable(f"3000 records, twice, with FIRST_EIO={n}", 1, DATA, DATA, faults={"FIRST_EIO": n})
     unreadable(f"3000 records, twice, with SECOND_EIO={n}", 2, DATA, DATA, faults={"SECOND_EIO": n})

@@ -175,8 +175,7 @@ fn compare_records(
     Verdict::unreadable(Log::First)
 }
 
-// One log has ended, with `left` left of it: the other is read to its end, where the verdict depends on it, from what lies in its
-// window between `from` and `to`.
+// One log has ended, with `left` left of it: the other is read to its end, from what lies in its window between `from` and `to`.
 fn end_other(
     comparison: Comparison,
     other: Log,
@@ -190,9 +189,6 @@ fn end_other(
     requires { ⌜ from ≤ to ⌝ }
     requires { ⌜ to ≤ length (now window) ⌝ }
 {
-    if is_certain(other, left.len()) {
-        return comparison.end(left, &window[from..to]);
-    }
     let rest = read_rest(left, fd, name, window, from, to);
     let count = rest.count;
     if rest.failed {
@@ -201,15 +197,6 @@ fn end_other(
     match other {
         Log::First => comparison.end(&window[..count], left),
         Log::Second => comparison.end(left, &window[..count]),
-    }
-}
-
-// Whether the verdict does not depend on what follows of the other log: where the first ends in a part of a record, that is named
-// before anything of the second.
-fn is_certain(other: Log, left: usize) -> bool {
-    match other {
-        Log::First => false,
-        Log::Second => left % entry::LENGTH != 0,
     }
 }
 

@@ -1,12 +1,9 @@
 -- How two logs are given to a comparison, piece by piece: the words of the claims.
-use Prim.Native.Nat.{ℕ, _≤_, _<_}
+use Prim.Native.Nat.{ℕ, _≤_}
 use mathlib.Core.Path.{_≡_}
-use mathlib.Core.Bool.{true}
 use mathlib.Core.List.{List, _++_}
-use lib.ListN.{length, take, drop}
+use lib.ListN.{take, drop}
 use Rattle.script.specs.Format.{headerLength}
-use Rattle.script.specs.Log.{entryLength}
-use Rattle.compare.specs.Verdict.{partial}
 use Rattle.compare.specs.Comparison.{begun, next, taken, end, surplus}
 use Rattle.compare.specs.declared.comparison.Comparison.{Comparison}
 use Rattle.compare.specs.declared.comparison.Comparison.the-variants.{Decided}
@@ -18,7 +15,6 @@ use Rattle.compare.specs.declared.verdict.Verdict.{Verdict}
 --   cut in its own way and anywhere. What it takes is left no more.
 -- * `known`: the verdict is known, and nothing more is given.
 -- * `first-ended`, `second-ended`: a log is given to its end, and bytes of the other are passed over by `surplus`.
--- * `first-in-part`: the first log is given to its end, and ends in a part of a record. Of the second, `end` may be given less.
 -- * `at-end`: `end` is given all that is left of each.
 pub data ComesTo : Comparison → (records records′ : List ℕ) → Verdict → Type 0 where
   next-pieces :
@@ -33,9 +29,6 @@ pub data ComesTo : Comparison → (records records′ : List ℕ) → Verdict �
   second-ended :
       (piece more records′ : List ℕ) {c : Comparison} {n : ℕ} {v : Verdict} → n ≡ surplus records′ piece →
       ComesTo c (drop n (piece ++ more)) records′ v → ComesTo c (piece ++ more) records′ v
-  first-in-part :
-      (records piece more : List ℕ) {c : Comparison} {v : Verdict} → length records < entryLength →
-      partial records ≡ true → v ≡ end c records piece → ComesTo c records (piece ++ more) v
   at-end : {c : Comparison} {records records′ : List ℕ} {v : Verdict} → v ≡ end c records records′ → ComesTo c records records′ v
 
 -- Two logs are compared: `begin` is given the first bytes of each, as many as a header has or more, or all where there are

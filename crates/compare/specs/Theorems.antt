@@ -2,7 +2,7 @@
 use Prim.Native.Nat.{ℕ, _+_, _*_, _<_}
 use mathlib.Core.Path.{_≡_, refl, sym, ap, _∙_}
 use mathlib.Core.Bool.{false}
-use mathlib.Core.List.{List, _++_}
+use mathlib.Core.List.{List}
 use lib.ListN.{length, drop, take-append-drop}
 use Rattle.devices.specs.Refusal.{notRefused}
 use Rattle.script.specs.Format.{log, headerLength, refusal}
@@ -14,7 +14,7 @@ use Rattle.compare.specs.Verdict.Laws.{whole-records-equal, self-equal}
 use Rattle.compare.specs.Comparison as comparisons
 use Rattle.compare.specs.Comparison.{largest, saturated, end}
 use Rattle.compare.specs.Comparison.Laws as laws
-use Rattle.compare.specs.Pieces.{ComesTo, next-pieces, known, first-ended, second-ended, first-in-part, at-end, Compared}
+use Rattle.compare.specs.Pieces.{ComesTo, next-pieces, known, first-ended, second-ended, at-end, Compared}
 use Rattle.compare.specs.declared.comparison.Comparison.{Comparison}
 use Rattle.compare.specs.declared.verdict.Verdict.{Verdict}
 use Rattle.compare.specs.declared.verdict.Verdict.the-variants.{Equal}
@@ -29,8 +29,6 @@ comes-to-end (first-ended records piece more {c} e rest) =
     comes-to-end rest ∙ rw e (sym (laws.second-surplus c records piece more))
 comes-to-end (second-ended piece more records′ {c} e rest) =
     comes-to-end rest ∙ rw e (sym (laws.first-surplus c records′ piece more))
-comes-to-end (first-in-part records piece more {c} h t e) =
-    e ∙ laws.first-partial c records piece (piece ++ more) h t
 comes-to-end (at-end e) = e
 
 -- "Logs are longer than memory; where its pieces fall may not change its verdict." However the two logs are cut into pieces,

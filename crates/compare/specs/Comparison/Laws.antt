@@ -1,7 +1,7 @@
 -- What follows from the definition of a comparison by pieces. Assumes nothing.
 use Prim.Native.Nat.{ℕ, zero, suc, _+_, _-_, _*_, _%_, _≤_, _<_, min}
 use mathlib.Core.Path.{_≡_, refl, sym, ap, _∙_}
-use mathlib.Core.Bool.{true, false≢true}
+use mathlib.Core.Bool.{false≢true}
 use mathlib.Core.List.{List, [], _∷_, _++_}
 use native.Mathlib.Omega.{arith}
 use native.Mathlib.Decide.{decLt}
@@ -234,17 +234,6 @@ end-first-short n a b h = end-undecided n a b ∙ rw (none-common a b h .0) refl
 end-second-short : (n : ℕ) (a b : List ℕ) → length a < entryLength → end (Undecided n) b a ≡ atEnd b a
 unfolding inRecords
 end-second-short n a b h = end-undecided n b a ∙ rw (none-common a b h .1) refl
-
--- A part of a record that is left of the first log is the verdict, whatever follows of the second.
-in-part :
-    (n : ℕ) (a b : List ℕ) → length a < entryLength → partial a ≡ true → end (Undecided n) a b ≡ Partial First
-in-part n a b h t = end-first-short n a b h ∙ rw t refl
-
-pub first-partial :
-    (c : Comparison) (a b b′ : List ℕ) → length a < entryLength → partial a ≡ true → end c a b ≡ end c a b′
-unfolding next
-first-partial (Undecided n) a b b′ h t = in-part n a b h t ∙ sym (in-part n a b′ h t)
-first-partial (Decided v) a b b′ h t = refl
 
 -- `surplus`: of the other log there is a record more, and what is behind its last one.
 module _ (j : ℕ) (a b : List ℕ) (h : length a < entryLength) (l : entryLength * (j + 1) ≤ length b) where
