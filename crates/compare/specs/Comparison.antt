@@ -60,7 +60,7 @@ decided (Decided v) otherwise = v
 abbrev pub end : Comparison → (records records′ : List ℕ) → Verdict
 end c records records′ = decided (next c records records′) (atEnd records records′)
 
--- Where less than a record is left of one log: how many bytes of a piece of the other the verdict does not depend on. They are
--- those of all its whole records but one, and none where it has none (1 less than 0 is 0).
+-- Where `left`, less than a record, is all that is left of one log: how many bytes of a piece of the other the verdict does not
+-- depend on. They are those of all its whole records but one, and none where it has none (1 less than 0 is 0).
 abbrev pub surplus : (left piece : List ℕ) → ℕ
 surplus left piece = cond (ltb (length left) entryLength) (entryLength * (whole piece - 1)) 0

@@ -32,20 +32,21 @@ comes-to-end (second-ended piece more records′ {c} e rest) =
 comes-to-end (at-end e) = e
 
 -- "Logs are longer than memory; where its pieces fall may not change its verdict." However the two logs are cut into pieces,
--- each in its own way and anywhere, the verdict is that of the whole files, with a record's number that stays at the largest
--- of 64 bits.
-pub pieces-claim : (first second : List ℕ) {v : Verdict} → Compared first second v → v ≡ saturated (verdict first second)
-pieces-claim first second c =
+-- each in its own way and anywhere, the verdict is that of the whole files, except that a record's number above 2^64 - 1 is
+-- given as 2^64 - 1.
+pub verdict-claim : (first second : List ℕ) {v : Verdict} → Compared first second v → v ≡ saturated (verdict first second)
+verdict-claim first second c =
     comes-to-end (c .goes) ∙
     rw (c .begins) (laws.begun-end first second (c .given) (c .given′) (c .header) (c .header′))
 
--- It is that of the whole files as it stands where the first has fewer records than 64 bits count, as every file has.
+-- Where the first log has fewer than 2^64 records, as every file has, it is exactly that of the whole files.
 pub exact-claim :
     (first second : List ℕ) {v : Verdict} → length first < entryLength * (largest + 1) → Compared first second v →
     v ≡ verdict first second
-exact-claim first second h c = pieces-claim first second c ∙ laws.verdict-exact first second h
+exact-claim first second h c = verdict-claim first second c ∙ laws.verdict-exact first second h
 
--- "So of two accepted logs without partial records it says equal exactly when all bytes are equal."
+-- "So of two accepted logs without partial records it says equal exactly when all bytes are equal." A file is a list of bytes,
+-- numbers below 256.
 pub record WholeLog (file : List ℕ) : Type 0 where
   pub bytes : (n : ℕ) → byte n file < 256
   pub accepted : refusal log file ≡ notRefused
@@ -68,6 +69,6 @@ module _ (first second : List ℕ) (a : WholeLog first) (b : WholeLog second) wh
 
   pub equal-claim : {v : Verdict} → Compared first second v → (v ≡ Equal → first ≡ second) × (first ≡ second → v ≡ Equal)
   equal-claim c = (
-    λ e. same-bytes (laws.saturated-equal (verdict first second) (sym (pieces-claim first second c) ∙ e)),
-    λ e. pieces-claim first second c ∙ ap saturated (same-verdict e),
+    λ e. same-bytes (laws.saturated-equal (verdict first second) (sym (verdict-claim first second c) ∙ e)),
+    λ e. verdict-claim first second c ∙ ap saturated (same-verdict e),
   )

@@ -23,16 +23,17 @@ alike [] (y ∷ ys) = false
 alike (x ∷ xs) [] = false
 alike (x ∷ xs) (y ∷ ys) = eqb x y && alike xs ys
 
--- "names .. the first differing field": of some fields, one after the other, the first that differs is `named`; `otherwise`
--- none does
+-- "names .. the first differing field": of some fields, which follow each other in the bytes, the first that differs is
+-- `named`; `otherwise` none does
 unfoldable pub inFields :
-    {A : Type 0} (named : Field → A) → List Part → (records records′ : List ℕ) → (otherwise : A) → A
-inFields named [] records records′ otherwise = otherwise
-inFields named (p ∷ ps) records records′ otherwise =
-    cond (alike (take (p .width) records) (take (p .width) records′))
-    (inFields named ps (drop (p .width) records) (drop (p .width) records′) otherwise) (named (p .field))
+    {A : Type 0} (named : Field → A) → List Part → (bytes bytes′ : List ℕ) → (otherwise : A) → A
+inFields named [] bytes bytes′ otherwise = otherwise
+inFields named (p ∷ ps) bytes bytes′ otherwise =
+    cond (alike (take (p .width) bytes) (take (p .width) bytes′))
+    (inFields named ps (drop (p .width) bytes) (drop (p .width) bytes′) otherwise) (named (p .field))
 
--- "names the first record that differs": of the first `count` records after n that are equal; "(counted from 1)"
+-- "names the first record that differs": of `count` records, which follow n equal ones, the first that differs is `named` by its
+-- number, "counted from 1", and its field; `otherwise` none does
 unfoldable pub inRecords :
     {A : Type 0} (named : ℕ → Field → A) → (count n : ℕ) → (records records′ : List ℕ) → (otherwise : A) → A
 inRecords named zero n records records′ otherwise = otherwise
@@ -40,18 +41,19 @@ inRecords named (suc count) n records records′ otherwise =
     inFields (named (suc n)) layout records records′
     (inRecords named count (suc n) (drop entryLength records) (drop entryLength records′) otherwise)
 
--- "whole records both have"
+-- how many whole records a log has, and how many "whole records both have"
 abbrev pub whole : List ℕ → ℕ
 whole records = length records / entryLength
 
 abbrev pub common : (records records′ : List ℕ) → ℕ
 common records records′ = min (whole records) (whole records′)
 
--- "else a partial record at the end is named, with its log, the first log first; else a strict beginning; else equal";
--- "`beginning 2` (the shorter log)"
+-- whether there is "a partial record at the end"
 abbrev pub partial : List ℕ → Bool
 partial records = not (eqb (length records % entryLength) 0)
 
+-- "else a partial record at the end is named, with its log, the first log first; else a strict beginning; else equal";
+-- "`beginning 2` (the shorter log)"
 abbrev pub atEnd : (records records′ : List ℕ) → Verdict
 atEnd records records′ =
     cond (partial records) (Partial First)
@@ -67,7 +69,7 @@ onRecords records records′ = inRecords Record (common records records′) 0 re
 abbrev pub judged : {A : Type 0} (refused : ℕ → A) → (file : List ℕ) → (otherwise : A) → A
 judged refused file otherwise = cond (eqb (refusal log file) notRefused) otherwise (refused (refusal log file))
 
--- The verdict: "the first log judged first", and then its records, for a refused file has none.
+-- The verdict: "the first log judged first", then the second, then the records of both.
 abbrev pub verdict : (first second : List ℕ) → Verdict
 verdict first second =
     judged (Refused First) first

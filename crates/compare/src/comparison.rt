@@ -189,8 +189,9 @@ fn at_end(first: &[u8], second: &[u8]) -> Verdict
     Verdict::Equal
 }
 
-// Where less than a record is left of one log, `left`: so many bytes of a piece of the other may be passed over, for the verdict
-// does not depend on them. One whole record stays, which says that this log is the longer one.
+// Where one log has been given to its end, and `left`, less than a record, is all that is left of it: so many bytes of a piece of
+// the other may be passed over, for the verdict does not depend on them. One whole record stays, which says that this log is the
+// longer one.
 pub fn surplus(left: &[u8], piece: &[u8]) -> usize
     ensures { λ r. ⌜ r ≡ comparisons.surplus (now (left .entry)) (now (piece .entry)) ⌝ }
     ensures { λ r. ⌜ r ≤ length (now (piece .entry)) ⌝ }

@@ -7,7 +7,8 @@ use Rattle.aplcmp.proofs.compare_records.Statement.{statement}
 use Rattle.aplcmp.proofs.compare_records.Tie as tie
 
 abbrev Inv-loop : tie.InvT-loop
-Inv-loop fd-1 name-1 fd-2 name-2 first₀ second₀ comparison₀ turns₀ first second comparison turns = (length first ≡ pieceLength) × (length second ≡ pieceLength)
+Inv-loop fd-1 name-1 fd-2 name-2 first₀ second₀ comparison₀ turns₀ first second comparison turns =
+    (length first ≡ pieceLength) × (length second ≡ pieceLength)
 
 abbrev μ-loop : tie.MeasureT-loop
 μ-loop fd-1 name-1 fd-2 name-2 first₀ second₀ comparison₀ turns₀ first second comparison turns = turns
@@ -15,4 +16,10 @@ abbrev μ-loop : tie.MeasureT-loop
 pub compare-records-spec : {M : Type 1} → statement M
 compare-records-spec =
     tie.close
-    (tie.spec Inv-loop μ-loop (λ c. search needs) (λ c. search needs) (λ c. search needs) (λ c κs. search needs) (λ c. search needs) (λ c κs. search needs) (λ c. search needs) (λ c. search needs) (λ c. search needs) (λ c. search needs) (λ c κs. search needs) (λ c. search needs) (λ c. search needs) (λ c. search needs) (λ c κs. search needs) (λ c. search needs) (λ c κs. search needs) (λ c. search needs) (λ c. search needs) (λ c. search needs) (λ c. search needs) (λ c. search needs) (λ c κs. search needs) (λ c. search needs) (λ c. search needs) (λ c. search needs) (λ c. search needs) (λ c. search needs) (λ c κs. search needs) (λ c. search needs) (λ c. search needs) (λ c. search needs) (λ c κs. search needs) (λ c. search needs))
+    (tie.spec Inv-loop μ-loop (λ c. search needs) (λ c. search needs) (λ c. search needs) (λ c κs. search needs)
+    (λ c. search needs) (λ c κs. search needs) (λ c. search needs) (λ c. search needs) (λ c. search needs)
+    (λ c. search needs) (λ c κs. search needs) (λ c. search needs) (λ c. search needs) (λ c. search needs)
+    (λ c κs. search needs) (λ c. search needs) (λ c κs. search needs) (λ c. search needs) (λ c. search needs)
+    (λ c. search needs) (λ c. search needs) (λ c. search needs) (λ c κs. search needs) (λ c. search needs)
+    (λ c. search needs) (λ c. search needs) (λ c. search needs) (λ c. search needs) (λ c κs. search needs)
+    (λ c. search needs) (λ c. search needs) (λ c. search needs) (λ c κs. search needs) (λ c. search needs))

@@ -103,6 +103,29 @@ module _ {A : Type 0} where
         suc-add n m,
       ) refl
 
+  -- What names each field, or each record, alike gives the same.
+  fields-same :
+      (named named′ : Field → A) (ps : List Part) (a b : List ℕ) (c d : A) → ((x : Field) → named x ≡ named′ x) → c ≡ d →
+      inFields named ps a b c ≡ inFields named′ ps a b d
+  unfolding inFields
+  fields-same named named′ [] a b c d e f = f
+  fields-same named named′ (p ∷ ps) a b c d e f =
+      rw (fields-same named named′ ps (drop (p .width) a) (drop (p .width) b) c d e f, e (p .field)) refl
+
+  records-same :
+      (named named′ : ℕ → Field → A) (count m n : ℕ) (a b : List ℕ) (c : A) →
+      ((k : ℕ) → k < count → (x : Field) → named (suc (m + k)) x ≡ named′ (suc (n + k)) x) →
+      inRecords named count m a b c ≡ inRecords named′ count n a b c
+  unfolding inRecords
+  records-same named named′ zero m n a b c e = refl
+  records-same named named′ (suc count) m n a b c e =
+      fields-same (named (suc m)) (named′ (suc n)) layout a b
+      (inRecords named count (suc m) (drop entryLength a) (drop entryLength b) c)
+      (inRecords named′ count (suc n) (drop entryLength a) (drop entryLength b) c)
+      (λ x. rw (add-zero m, add-zero n) at (e 0 (omega arith) x))
+      (records-same named named′ count (suc m) (suc n) (drop entryLength a) (drop entryLength b) c
+      (λ k l x. rw (add-suc m k, add-suc n k, ← suc-add m k, ← suc-add n k) at (e (suc k) (omega arith) x)))
+
 -- The verdict that names a record, with the code's count. A count that stays at the largest number gives the same.
 abbrev capped : ℕ → Field → Verdict
 capped n field = saturated (Record n field)
@@ -110,16 +133,9 @@ capped n field = saturated (Record n field)
 records-capped :
     (count n : ℕ) (a b : List ℕ) (v : Verdict) →
     inRecords capped count (min n largest) a b v ≡ inRecords capped count n a b v
-unfolding inRecords inFields
-records-capped zero n a b v = refl
-records-capped (suc count) n a b v =
-    let rest = drop entryLength a in
-    let rest′ = drop entryLength b in
-    let one-more : min (suc (min n largest)) largest ≡ min (suc n) largest = omega arith in
-    let later : inRecords capped count (suc (min n largest)) rest rest′ v ≡ inRecords capped count (suc n) rest rest′ v =
-    sym (records-capped count (suc (min n largest)) rest rest′ v) ∙
-    rw one-more (records-capped count (suc n) rest rest′ v) in
-    rw (one-more, later) refl
+records-capped count n a b v =
+    records-same capped capped count (min n largest) n a b v
+    (λ k l x. let same : min (suc (min n largest + k)) largest ≡ min (suc (n + k)) largest = omega arith in rw same refl)
 
 -- What an undecided comparison comes to.
 end-undecided :
@@ -224,16 +240,9 @@ next-step (Undecided n) a b more others = undecided-step n a b more others
 next-step (Decided v) a b more others = refl
 
 -- Where less than a record is left of one log.
-none-common : (a b : List ℕ) → length a < entryLength → (common a b ≡ 0) × (common b a ≡ 0)
-none-common a b h = (omega arith, omega arith)
-
-end-first-short : (n : ℕ) (a b : List ℕ) → length a < entryLength → end (Undecided n) a b ≡ atEnd a b
+end-short : (n : ℕ) (a b : List ℕ) → common a b ≡ 0 → end (Undecided n) a b ≡ atEnd a b
 unfolding inRecords
-end-first-short n a b h = end-undecided n a b ∙ rw (none-common a b h .0) refl
-
-end-second-short : (n : ℕ) (a b : List ℕ) → length a < entryLength → end (Undecided n) b a ≡ atEnd b a
-unfolding inRecords
-end-second-short n a b h = end-undecided n b a ∙ rw (none-common a b h .1) refl
+end-short n a b e = end-undecided n a b ∙ rw e refl
 
 -- `surplus`: of the other log there is a record more, and what is behind its last one.
 module _ (j : ℕ) (a b : List ℕ) (h : length a < entryLength) (l : entryLength * (j + 1) ≤ length b) where
@@ -283,8 +292,8 @@ second-surplus (Undecided n) a piece more =
     by-surplus (λ (x : ℕ). end (Undecided n) a (piece ++ more) ≡ end (Undecided n) a (drop x (piece ++ more))) a piece more
     refl
     (λ h j l.
-    end-first-short n a (piece ++ more) h ∙ second-over j a (piece ++ more) h l ∙
-    sym (end-first-short n a (drop (entryLength * j) (piece ++ more)) h))
+    end-short n a (piece ++ more) (omega arith) ∙ second-over j a (piece ++ more) h l ∙
+    sym (end-short n a (drop (entryLength * j) (piece ++ more)) (omega arith)))
 second-surplus (Decided v) a piece more = refl
 
 pub first-surplus :
@@ -295,8 +304,8 @@ first-surplus (Undecided n) a piece more =
     by-surplus (λ (x : ℕ). end (Undecided n) (piece ++ more) a ≡ end (Undecided n) (drop x (piece ++ more)) a) a piece more
     refl
     (λ h j l.
-    end-second-short n a (piece ++ more) h ∙ first-over j a (piece ++ more) h l ∙
-    sym (end-second-short n a (drop (entryLength * j) (piece ++ more)) h))
+    end-short n (piece ++ more) a (omega arith) ∙ first-over j a (piece ++ more) h l ∙
+    sym (end-short n (drop (entryLength * j) (piece ++ more)) a (omega arith)))
 first-surplus (Decided v) a piece more = refl
 
 -- At the end of two logs that were begun, it is the verdict, with the code's count.
@@ -350,11 +359,9 @@ begun-end first second m n h k =
 records-exact :
     (count n : ℕ) (a b : List ℕ) (v : Verdict) → n + count ≤ largest →
     inRecords capped count n a b v ≡ inRecords Record count n a b v
-unfolding inRecords inFields
-records-exact zero n a b v h = refl
-records-exact (suc count) n a b v h =
-    let exact : min (suc n) largest ≡ suc n = omega arith in
-    rw (exact, records-exact count (suc n) (drop entryLength a) (drop entryLength b) v (omega arith)) refl
+records-exact count n a b v h =
+    records-same capped Record count n n a b v
+    (λ k l x. let exact : min (suc (n + k)) largest ≡ suc (n + k) = omega arith in rw exact refl)
 
 pub verdict-exact :
     (first second : List ℕ) → length first < entryLength * (largest + 1) →

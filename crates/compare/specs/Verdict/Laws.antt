@@ -1,7 +1,7 @@
 -- What follows from the definition of a verdict. Assumes nothing.
 use Prim.Native.Nat.{ℕ, zero, suc, _+_, _*_, _%_, _≤_}
 use mathlib.Core.Path.{_≡_, refl, sym, ap, _∙_}
-use mathlib.Core.Bool.{Bool, true, false, _&&_, false≢true}
+use mathlib.Core.Bool.{Bool, true, false, _&&_, and-eq-true-iff, false≢true}
 use mathlib.Core.List.{List, [], _∷_, _++_}
 use native.Mathlib.Omega.{arith}
 use native.Mathlib.Decide.{decLt}
@@ -24,10 +24,6 @@ use Rattle.compare.specs.declared.verdict.Log.the-variants.{First, Secon
 use Rattle.compare.specs.declared.verdict.Verdict.{Verdict}
 use Rattle.compare.specs.declared.verdict.Verdict.the-variants.{Refused, Record, Partial, Beginning, Equal}
 
-and-both : (a b : Bool) → (a && b) ≡ true → (a ≡ true) × (b ≡ true)
-and-both true b e = (refl, e)
-and-both false b e = (e, absurd (false≢true e))
-
 -- Lists of bytes that are put together are alike where their parts are.
 pub alike-append :
     (xs ys more others : List ℕ) → length xs ≡ length ys →
@@ -38,7 +34,7 @@ alike-append (x ∷ xs) [] more others e = absurd (omega arith)
 alike-append (x ∷ xs) (y ∷ ys) more others e =
     tested (eqb x y) (λ t. rw (t, alike-append xs ys more others (omega arith)) refl) (λ t. rw t refl)
 
-pub alike-split :
+alike-split :
     (m n : ℕ) (a b : List ℕ) → m ≤ length a → m ≤ length b →
     alike (take (m + n) a) (take (m + n) b) ≡ (alike (take m a) (take m b) && alike (take n (drop m a)) (take n (drop m b)))
 alike-split m n a b h k =
@@ -48,10 +44,12 @@ alike-split m n a b h k =
 
 -- The bytes that two lists begin with, in two parts.
 module _ (m n : ℕ) (a b : List ℕ) (h : m ≤ length a) (k : m ≤ length b) where
-  pub both-alike :
+  both-alike :
       alike (take (m + n) a) (take (m + n) b) ≡ true →
       (alike (take m a) (take m b) ≡ true) × (alike (take n (drop m a)) (take n (drop m b)) ≡ true)
-  both-alike e = and-both _ _ (sym (alike-split m n a b h k) ∙ e)
+  both-alike e =
+      and-eq-true-iff (alike (take m a) (take m b)) (alike (take n (drop m a)) (take n (drop m b))) .0
+      (sym (alike-split m n a b h k) ∙ e)
 
   pub rest-differs :
       alike (take (m + n) a) (take (m + n) b) ≡ false → alike (take m a) (take m b) ≡ true →
@@ -81,7 +79,7 @@ alike-equal [] [] e = refl
 alike-equal [] (y ∷ ys) e = absurd (false≢true e)
 alike-equal (x ∷ xs) [] e = absurd (false≢true e)
 alike-equal (x ∷ xs) (y ∷ ys) e =
-    let both = and-both (eqb x y) (alike xs ys) e in
+    let both = and-eq-true-iff (eqb x y) (alike xs ys) .0 e in
     rw (eqb-true x y (both .0), alike-equal xs ys (both .1)) refl
 
 -- The records of a log do not differ from themselves.
@@ -98,59 +96,7 @@ records-self named (suc count) n a c =
     fields-self (named (suc n)) layout a (inRecords named count (suc n) (drop entryLength a) (drop entryLength a) c) ∙
     records-self named count (suc n) (drop entryLength a) c
 
--- Where the verdict names no record, none differs.
-abbrev isRecord : Verdict → Bool
-isRecord (Refused log number) = false
-isRecord (Record n field) = true
-isRecord (Partial log) = false
-isRecord (Beginning log) = false
-isRecord Equal = false
-
-module _ (w : Verdict) (no : isRecord w ≡ false) where
-  fields-equal :
-      (n : ℕ) (ps : List Part) (a b : List ℕ) (v : Verdict) → widths ps ≤ length a → widths ps ≤ length b →
-      inFields (Record n) ps a b v ≡ w → (take (widths ps) a ≡ take (widths ps) b) × (v ≡ w)
-  unfolding inFields
-  fields-equal n [] a b v h k e = (refl, e)
-  fields-equal n (p ∷ ps) a b v h k e =
-      tested (alike (take (p .width) a) (take (p .width) b))
-      (λ t.
-      let rest =
-      fields-equal n ps (drop (p .width) a) (drop (p .width) b) v (rw (length-drop (p .width) a) (omega arith))
-      (rw (length-drop (p .width) b) (omega arith)) (rw t at e) in (
-        rw (
-          take-add (p .width) (widths ps) a,
-          take-add (p .width) (widths ps) b,
-          alike-equal (take (p .width) a) (take (p .width) b) t,
-          rest .0,
-        ) refl,
-        rest .1,
-      ))
-      (λ t. let named = rw t at e in absurd (false≢true (sym no ∙ sym (ap isRecord named))))
-
-  records-equal :
-      (count n : ℕ) (a b : List ℕ) (v : Verdict) → entryLength * count ≤ length a → entryLength * count ≤ length b →
-      inRecords Record count n a b v ≡ w → (take (entryLength * count) a ≡ take (entryLength * count) b) × (v ≡ w)
-  unfolding inRecords
-  records-equal zero n a b v h k e = (refl, e)
-  records-equal (suc count) n a b v h k e =
-      let more : entryLength * suc count ≡ entryLength + entryLength * count = omega arith in
-      let both :
-      (l : List ℕ) →
-      take (entryLength * suc count) l ≡ take entryLength l ++ take (entryLength * count) (drop entryLength l) =
-      λ l. rw more (take-add entryLength (entryLength * count) l) in
-      let one =
-      fields-equal (suc n) layout a b (inRecords Record count (suc n) (drop entryLength a) (drop entryLength b) v)
-      (omega arith) (omega arith) e in
-      let others =
-      records-equal count (suc n) (drop entryLength a) (drop entryLength b) v (rw (length-drop entryLength a) (omega arith))
-      (rw (length-drop entryLength b) (omega arith)) (one .1) in (
-        both a ∙ ap (λ (l : List ℕ). l ++ take (entryLength * count) (drop entryLength a)) (one .0) ∙
-            ap (λ (l : List ℕ). take entryLength b ++ l) (others .0) ∙ sym (both b),
-        others .1,
-      )
-
--- Of two lists of whole records.
+-- Where the verdict is `equal`, no record differs.
 abbrev pub isEqual : Verdict → Bool
 isEqual (Refused log number) = false
 isEqual (Record n field) = false
@@ -158,6 +104,50 @@ isEqual (Partial log) = false
 isEqual (Beginning log) = false
 isEqual Equal = true
 
+fields-equal :
+    (n : ℕ) (ps : List Part) (a b : List ℕ) (v : Verdict) → widths ps ≤ length a → widths ps ≤ length b →
+    inFields (Record n) ps a b v ≡ Equal → (take (widths ps) a ≡ take (widths ps) b) × (v ≡ Equal)
+unfolding inFields
+fields-equal n [] a b v h k e = (refl, e)
+fields-equal n (p ∷ ps) a b v h k e =
+    tested (alike (take (p .width) a) (take (p .width) b))
+    (λ t.
+    let rest =
+    fields-equal n ps (drop (p .width) a) (drop (p .width) b) v (rw (length-drop (p .width) a) (omega arith))
+    (rw (length-drop (p .width) b) (omega arith)) (rw t at e) in (
+      rw (
+        take-add (p .width) (widths ps) a,
+        take-add (p .width) (widths ps) b,
+        alike-equal (take (p .width) a) (take (p .width) b) t,
+        rest .0,
+      ) refl,
+      rest .1,
+    ))
+    (λ t. absurd (false≢true (ap isEqual (rw t at e))))
+
+records-equal :
+    (count n : ℕ) (a b : List ℕ) (v : Verdict) → entryLength * count ≤ length a → entryLength * count ≤ length b →
+    inRecords Record count n a b v ≡ Equal → (take (entryLength * count) a ≡ take (entryLength * count) b) × (v ≡ Equal)
+unfolding inRecords
+records-equal zero n a b v h k e = (refl, e)
+records-equal (suc count) n a b v h k e =
+    let more : entryLength * suc count ≡ entryLength + entryLength * count = omega arith in
+    let both :
+    (l : List ℕ) →
+    take (entryLength * suc count) l ≡ take entryLength l ++ take (entryLength * count) (drop entryLength l) =
+    λ l. rw more (take-add entryLength (entryLength * count) l) in
+    let one =
+    fields-equal (suc n) layout a b (inRecords Record count (suc n) (drop entryLength a) (drop entryLength b) v)
+    (omega arith) (omega arith) e in
+    let others =
+    records-equal count (suc n) (drop entryLength a) (drop entryLength b) v (rw (length-drop entryLength a) (omega arith))
+    (rw (length-drop entryLength b) (omega arith)) (one .1) in (
+      both a ∙ ap (λ (l : List ℕ). l ++ take (entryLength * count) (drop entryLength a)) (one .0) ∙
+          ap (λ (l : List ℕ). take entryLength b ++ l) (others .0) ∙ sym (both b),
+      others .1,
+    )
+
+-- Of two lists of whole records.
 module _ (a b : List ℕ) (h : partial a ≡ false) (k : partial b ≡ false) where
   lengths-equal : atEnd a b ≡ Equal → length a ≡ length b
   lengths-equal e =
@@ -175,7 +165,7 @@ module _ (a b : List ℕ) (h : partial a ≡ false) (k : partial b ≡ false) wh
 
   pub whole-records-equal : onRecords a b ≡ Equal → a ≡ b
   whole-records-equal e =
-      let both = records-equal Equal refl (common a b) 0 a b (atEnd a b) (omega arith) (omega arith) e in
+      let both = records-equal (common a b) 0 a b (atEnd a b) (omega arith) (omega arith) e in
       let long = lengths-equal (both .1) in
       let none : length a % entryLength ≡ 0 = eqb-true (length a % entryLength) 0 (not-false _ h) in
       let all : entryLength * common a b ≡ length a = omega arith in

@@ -7,4 +7,5 @@ use Rattle.compare.proofs.comparison.field_at.Tie as tie
 pub field-at-spec : {M : Type 1} → statement M
 field-at-spec =
     tie.close
-    (tie.spec (λ c κs. search needs) (λ c κs. (search record-within, (search record-within, search table-differs))) (λ c. search record-differs))
+    (tie.spec (λ c κs. search needs) (λ c κs. (search record-within, (search record-within, search table-differs)))
+    (λ c. search record-differs))

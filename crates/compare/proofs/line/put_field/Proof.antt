@@ -8,4 +8,13 @@ use Rattle.compare.proofs.line.put_field.Tie as tie
 pub put-field-spec : {M : Type 1} → statement M
 put-field-spec =
     tie.close
-    (tie.spec (λ c. search needs) (λ c. search needs) (λ c κs. search needs) (λ c. search needs) (λ c. search needs) (λ c κs. search needs) (λ c. search needs) (λ c. search needs) (λ c κs. search needs) (λ c. search needs) (λ c. search needs) (λ c κs. search needs) (λ c. search needs) (λ c. search needs) (λ c κs. search needs) (λ c. search needs) (λ c κs. search needs) (λ c. search needs) (λ c. (search (put-as fieldText), search (put-within 10, needs))) (λ c. search needs) (λ c. (search (put-as fieldText), search (put-within 10, needs))) (λ c. search needs) (λ c. (search (put-as fieldText), search (put-within 10, needs))) (λ c. search needs) (λ c. (search (put-as fieldText), search (put-within 10, needs))) (λ c. search needs) (λ c. (search (put-as fieldText), search (put-within 10, needs))) (λ c. search needs) (λ c. (search (put-as fieldText), search (put-within 10, needs))))
+    (tie.spec (λ c. search needs) (λ c. search needs) (λ c κs. search needs) (λ c. search needs) (λ c. search needs)
+    (λ c κs. search needs) (λ c. search needs) (λ c. search needs) (λ c κs. search needs) (λ c. search needs)
+    (λ c. search needs) (λ c κs. search needs) (λ c. search needs) (λ c. search needs) (λ c κs. search needs)
+    (λ c. search needs) (λ c κs. search needs) (λ c. search needs)
+    (λ c. (search (put-as fieldText), search (put-within 10, needs))) (λ c. search needs)
+    (λ c. (search (put-as fieldText), search (put-within 10, needs))) (λ c. search needs)
+    (λ c. (search (put-as fieldText), search (put-within 10, needs))) (λ c. search needs)
+    (λ c. (search (put-as fieldText), search (put-within 10, needs))) (λ c. search needs)
+    (λ c. (search (put-as fieldText), search (put-within 10, needs))) (λ c. search needs)
+    (λ c. (search (put-as fieldText), search (put-within 10, needs))))
