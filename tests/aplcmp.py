@@ -139,9 +139,10 @@ def wait(process):
 Result = collections.namedtuple("Result", "out err status made")
 
 
-def run(logs, more=(), faults=None, stdout=None, closed=(), under=(), folder=None):
-    """Runs the program on logs, with further arguments, with the faults of faults.c, with standard output to another file, with
-    these descriptors closed, under a command, or in a folder. Its status is None where it did not end."""
+def run(logs, more=(), faults=None, unmet=(), stdout=None, closed=(), under=(), folder=None):
+    """Runs the program on logs, with further arguments, with the faults of faults.c (those of `unmet` it need not meet), with standard
+    output to another file, with these descriptors closed, under a command, or in a folder. Its status is None where it did not
+    end."""
     names, pipes, fifos, feeds, ended = [], [], [], [], threading.Event()
     for file, given in zip(("first", "second"), logs):
         if isinstance(given, Name):
@@ -219,13 +220,14 @@ def needed(faults):
     return {name for name, number in faults.items() if number <= most.get(name, number)}
 
 
-def complaint(want, message, result, faults):
-    """What is wrong with a result, or None. `want` is a line, or where none can be written whole, the bytes of it that are."""
+def complaint(want, message, result, faults, unmet=()):
+    """What is wrong with a result, or None. `want` is a line, or where none can be written whole, the bytes of it that are. The
+    program may or may not meet the faults of `unmet`."""
     if result.status is None:
         return f"expected an end, got none in {SECONDS} s"
     if result.status < 0:
         return f"expected an end by itself, got signal {-result.status}"
-    if not needed(faults) <= result.made <= set(faults):
+    if not needed(faults) - set(unmet) <= result.made <= set(faults):
         return f"expected these faults made, got only {sorted(result.made)}"
     if isinstance(want, str):
         want = f"{want}\n".encode()
@@ -244,7 +246,7 @@ def case(what, logs, want, message=False, **how):
     global failed, unended
     try:
         result = run(logs, **how)
-        wrong = complaint(want, message, result, how.get("faults") or {})
+        wrong = complaint(want, message, result, how.get("faults") or {}, how.get("unmet", ()))
         if not wrong and "closed" in how and (altered("first") or altered("second")):  # one of them may have that descriptor
             wrong = "expected both logs as they were, got another"
         unended += result.status is None
@@ -548,6 +550,20 @@ for at in (1000, 70000, 100000, len(DATA)):
     unreadable(f"3000 records, 10 and a byte, with FIRST_EIO_AT={at}", 1, DATA, log(10, 1), faults={"FIRST_EIO_AT": at})
     unreadable(f"10 records, 3000 records, with SECOND_EIO_AT={at}", 2, log(10), DATA, faults={"SECOND_EIO_AT": at})
     unreadable(f"10 and a byte, 3000 records, with SECOND_EIO_AT={at}", 2, log(10, 1), DATA, faults={"SECOND_EIO_AT": at})
+# Reads of both logs fail: the one that does so first is named, wherever pieces end.
+for one, other in itertools.permutations((6, 1000, 60000, 70000, 140000), 2):
+    faults = {"FIRST_EIO_AT": one, "SECOND_EIO_AT": other}
+    later = "SECOND_EIO_AT" if one < other else "FIRST_EIO_AT"
+    what = f"3000 records, twice, {with_faults(faults)}"
+    unreadable(what, 1 if one < other else 2, DATA, DATA, faults=faults, unmet=[later])
+for at in (1000, 70000):
+    faults = {"FIRST_EIO_AT": at, "SECOND_EIO_AT": at}
+    unreadable(f"3000 records, twice, {with_faults(faults)}", 1, DATA, DATA, faults=faults)
+# A difference before a read that fails is the verdict, whether the program comes to that read or not.
+for at, which in itertools.product((1000, 70000, len(DATA)), ("FIRST", "SECOND")):
+    faults, other = {f"{which}_EIO_AT": at}, changed(DATA, offset(10))
+    what = f"3000 records, record 10 changed, {with_faults(faults)}"
+    case(what, [DATA, other], "record 10 number", message=None, faults=faults, unmet=faults)
 for n in (1, 2):  # later reads would not fail
     unreadable(f"3000 records, twice, with FIRST_EIO={n}", 1, DATA, DATA, faults={"FIRST_EIO": n})
     unreadable(f"3000 records, twice, with SECOND_EIO={n}", 2, DATA, DATA, faults={"SECOND_EIO": n})

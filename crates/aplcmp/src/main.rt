@@ -38,7 +38,13 @@ fn main() {
 fn say(verdict: Verdict) {
     let mut text = [0; line::LENGTH];
     let length = line::put_line(&mut text, verdict);
-    stream::emit(STDOUT_FILENO, b"standard output", &text[..length]);
+    stream::emit(STDOUT_FILENO, b"aplcmp: standard output", &text[..length]);
+}
+
+// Says why a log cannot be read, just after the call that failed.
+fn complain(name: &[u8]) {
+    io::write_all(STDERR_FILENO, b"aplcmp: ");
+    os::fail(name);
 }
 
 fn compare_named() -> Verdict {
@@ -66,12 +72,12 @@ fn open(i: usize, name: &mut [u8]) -> Opened
         return Opened { fd: -1, named: 0 };
     }
     if os::errno() != 0 {
-        os::fail(b"the name of a log");
+        complain(b"the name of a log");
         return Opened { fd: -1, named: 0 };
     }
     let fd = os::open_read(&name[..length]);
     if fd < 0 {
-        os::fail(&name[..length]);
+        complain(&name[..length]);
     }
     Opened { fd, named: length }
 }
@@ -86,7 +92,11 @@ fn read(fd: i32, name: &[u8], buffer: &mut [u8]) -> Filled
             failed: false,
         };
     }
-    stream::fill(fd, name, buffer)
+    let filled = stream::fill(fd, buffer);
+    if filled.failed {
+        complain(name);
+    }
+    filled
 }
 
 // A log whose header cannot be read counts as empty.
@@ -139,8 +149,11 @@ fn compare_records(
             Comparison::Decided(verdict) => return verdict,
             Comparison::Undecided(_) => {}
         }
-        // What came before a read that failed has been compared.
+        // What came before a read that failed has been compared. Where both failed, the log that did so first is named.
         if read_1.failed {
+            if read_2.failed {
+                return Verdict::unreadable(earlier(count_1, count_2));
+            }
             return Verdict::unreadable(Log::First);
         }
         if read_2.failed {
@@ -173,6 +186,15 @@ fn compare_records(
     }
     // No run comes here.
     Verdict::unreadable(Log::First)
+}
+
+// The log of which fewer bytes came, or the first.
+fn earlier(count_1: usize, count_2: usize) -> Log {
+    if count_2 < count_1 {
+        Log::Second
+    } else {
+        Log::First
+    }
 }
 
 // One log has ended, with `left` left of it: the other is read to its end, from what lies in its window between `from` and `to`.

@@ -127,7 +127,7 @@ fn compare_records(before: u64, first: &[u8], second: &[u8]) -> Step
 fn equal_records(first: &[u8], second: &[u8], count: usize) -> usize
     requires { ⌜ entryLength * count ≤ length (now first) ⌝ }
     requires { ⌜ entryLength * count ≤ length (now second) ⌝ }
-    ensures { λ r. ⌜ r ≡ private.agreeing count (now (first .entry)) (now (second .entry)) ⌝ }
+    ensures { λ r. ⌜ private.Matched count (now (first .entry)) (now (second .entry)) r ⌝ }
 {
     let mut same = 0;
     while same < count {

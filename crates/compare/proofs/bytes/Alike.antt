@@ -1,7 +1,7 @@
 -- Bytes compared one after the other. Assumes nothing.
 use Prim.Native.Nat.{ℕ, _+_, _≤_, _<_}
 use mathlib.Core.Path.{_≡_, refl, sym, _∙_}
-use mathlib.Core.Bool.{Bool, true, false, _&&_}
+use mathlib.Core.Bool.{Bool, _&&_, and-true}
 use mathlib.Core.List.{List, [], _∷_}
 use native.Mathlib.Omega.{arith}
 use native.Mathlib.Numerals.{add-one}
@@ -10,9 +10,6 @@ use lib.ListN.{length, length-drop, take, drop, getD}
 use lib.Seq.{take-suc, length-take-le, getD-drop}
 use Rattle.compare.specs.Verdict.{alike}
 use Rattle.compare.specs.Verdict.Laws.{alike-append}
-
-and-right : (b : Bool) → (b && true) ≡ b
-and-right b = elim b [ true ↦ refl | false ↦ refl ]
 
 pub alike-next :
     (at i count : ℕ) (a b : List ℕ) (same : Bool) → same ≡ alike (take i (drop at a)) (take i (drop at b)) → i < count →
@@ -30,7 +27,7 @@ alike-next at i count a b same e l h k =
       alike-append (take i (drop at a)) (take i (drop at b)) (getD a (at + i) 0 ∷ []) (getD b (at + i) 0 ∷ [])
           (length-take-le i (drop at a) (omega arith) ∙ sym (length-take-le i (drop at b) (omega arith))),
       e,
-      and-right (eqb (getD a (at + i) 0) (getD b (at + i) 0)),
+      and-true (eqb (getD a (at + i) 0) (getD b (at + i) 0)),
     ) refl
 
 pub alike-all :

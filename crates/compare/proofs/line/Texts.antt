@@ -13,7 +13,7 @@ use Rattle.compare.specs.Private.{Put}
 use Rattle.compare.specs.declared.verdict.Log.{Log}
 use Rattle.compare.specs.declared.verdict.Verdict.{Verdict}
 use Rattle.compare.specs.declared.verdict.Verdict.the-variants.{Refused, Record}
-use Rattle.compare.proofs.text.Putting.{put-then}
+use Rattle.compare.proofs.text.Putting.{put-then, put-three}
 
 -- Two texts.
 module _ (l l₁ l₂ : List ℕ) (i j : ℕ) (e : length l₁ ≡ length l) where
@@ -48,12 +48,10 @@ module _
       (log : Log) → Put l 0 (text "refused " ++ logText log) i l₁ → Put l₂ j (decimal n) k l₃ →
       Put l 0 (verdictText (Refused log n)) k l₃
   refused-put log p r =
-      let before = put-then l l₁ l₂ (text "refused " ++ logText log) (text " ") 0 i j p q e in
-      put-then l l₂ l₃ (text "refused " ++ logText log ++ text " ") (decimal n) 0 j k before r (f ∙ e)
+      put-three l l₁ l₂ l₃ (text "refused " ++ logText log) (text " ") (decimal n) 0 i j k p q r e f
 
   pub record-put :
       (field : Field) → Put l 0 (text "record " ++ decimal n) i l₁ → Put l₂ j (fieldText field) k l₃ →
       Put l 0 (verdictText (Record n field)) k l₃
   record-put field p r =
-      let before = put-then l l₁ l₂ (text "record " ++ decimal n) (text " ") 0 i j p q e in
-      put-then l l₂ l₃ (text "record " ++ decimal n ++ text " ") (fieldText field) 0 j k before r (f ∙ e)
+      put-three l l₁ l₂ l₃ (text "record " ++ decimal n) (text " ") (fieldText field) 0 i j k p q r e f

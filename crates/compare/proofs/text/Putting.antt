@@ -32,6 +32,12 @@ put-then l l′ l″ xs ys at i j p q e =
       written = q .written ∙ rw (p .written, p .ends) (wrote-join l xs ys at (length xs) refl (omega (arith, p .ends, p .room)));
     }
 
+pub put-three :
+    (l l₁ l₂ l₃ xs ys zs : List ℕ) (at i j k : ℕ) → Put l at xs i l₁ → Put l₁ i ys j l₂ → Put l₂ j zs k l₃ →
+    length l₁ ≡ length l → length l₂ ≡ length l₁ → Put l at (xs ++ ys ++ zs) k l₃
+put-three l l₁ l₂ l₃ xs ys zs at i j k p q r e f =
+    put-then l l₂ l₃ (xs ++ ys) zs at j k (put-then l l₁ l₂ xs ys at i j p q e) r (f ∙ e)
+
 -- A number, digit after digit.
 module _ (n at : ℕ) (l : List ℕ) (room : at + length (decimal n) ≤ length l) where
   module _ (d : n < 10) where
@@ -58,26 +64,22 @@ module _ (n at : ℕ) (l : List ℕ) (room : at + length (decimal n) ≤ length 
 pub tenth-falls : (n t : ℕ) → n ≡ t → 10 ≤ n → n / 10 < t
 tenth-falls n t e d = omega arith
 
--- Room for a number of 8 bits, and for one of 64.
-module _ (n at : ℕ) (l : List ℕ) where
-  pub byte-fits : Fits w8 n → at + 3 ≤ length l → at + length (decimal n) ≤ length l
-  byte-fits f h = omega (arith, decimal-length 2 n (omega (arith, f .fits)))
+-- How many digits a number of 8 bits has at most, and one of 64.
+pub byte-digits : (n : ℕ) → Fits w8 n → length (decimal n) ≤ 3
+byte-digits n f = decimal-length 2 n (omega (arith, f .fits))
 
-  pub long-fits : Fits w64 n → at + 20 ≤ length l → at + length (decimal n) ≤ length l
-  long-fits f h = omega (arith, decimal-length 19 n (omega (arith, f .fits)))
+pub long-digits : (n : ℕ) → Fits w64 n → length (decimal n) ≤ 20
+long-digits n f = decimal-length 19 n (omega (arith, f .fits))
 
-  module _ (i : ℕ) (l′ : List ℕ) (p : Put l at (decimal n) i l′) where
-    pub byte-within : Fits w8 n → i ≤ at + 3
-    byte-within f = omega (arith, p .ends, decimal-length 2 n (omega (arith, f .fits)))
+-- Room for bytes of which there are at most so many, and where they end.
+pub put-fits : (most at : ℕ) (l bytes : List ℕ) → length bytes ≤ most → at + most ≤ length l → at + length bytes ≤ length l
+put-fits most at l bytes h k = omega arith
 
-    pub long-within : Fits w64 n → i ≤ at + 20
-    long-within f = omega (arith, p .ends, decimal-length 19 n (omega (arith, f .fits)))
+pub put-within :
+    (most : ℕ) (l l′ bytes : List ℕ) (at i : ℕ) → Put l at bytes i l′ → length bytes ≤ most → i ≤ at + most
+put-within most l l′ bytes at i p h = omega (arith, p .ends)
 
 -- What a text is the text of.
 pub put-as :
     {A : Type 0} (f : A → List ℕ) (x y : A) (l l′ : List ℕ) (at i : ℕ) → x ≡ y → Put l at (f y) i l′ → Put l at (f x) i l′
 put-as f x y l l′ at i e p = rw e p
-
-pub put-within :
-    (most : ℕ) (l l′ bytes : List ℕ) (at i : ℕ) → Put l at bytes i l′ → length bytes ≤ most → i ≤ at + most
-put-within most l l′ bytes at i p h = omega (arith, p .ends)

@@ -37,9 +37,6 @@ abbrev pub widths : List Part → ℕ
 widths [] = 0
 widths (p ∷ ps) = p .width + widths ps
 
-pub layout-length : widths layout ≡ entryLength
-layout-length = refl
-
 pub entry-parts : (a : Answer) → parts layout (entry a) ≡ map (λ (p : Part). fieldOf (p .field) a) layout ++ ([] ∷ [])
 unfolding encoded entry
 entry-parts a = refl
