@@ -233,8 +233,8 @@ def complaint(want, message, result, faults, unmet=()):
         want = f"{want}\n".encode()
     if result.out != want:
         return f"expected {want!r}, got {result.out[:100]!r}"
-    if message and not result.err:
-        return "expected a message on standard error, got none"
+    if message and not result.err.startswith((b"aplcmp: ", b"usage: aplcmp ")):
+        return f"expected a message of aplcmp on standard error, got {result.err[:100]!r}"
     if message is False and result.err:
         return f"expected nothing on standard error, got {result.err[:100]!r}"
     return None

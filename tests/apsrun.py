@@ -360,7 +360,7 @@ def read_fails(name, data, whole, n, most=None):
     brought = (n - 1) * size
     known = 5 + 48 * ((brought - 5) // 16) if brought >= 5 else 0
     faults = {"READ_EIO": n} | ({"READ_MOST": most} if most else {})
-    faulty(name, data, Failure(b"standard input", whole, least, known, True), faults)
+    faulty(name, data, Failure(b"apsrun: stdin: ", whole, least, known, True), faults)
 
 
 for n in (1, 2, 3, 10, 17, 18, 19, 21):  # the 18th after 16 pieces, the 21st in the last
@@ -380,25 +380,25 @@ for n in range(1, 6):
 def write_fails(name, data, whole, n, most=None):
     faults = {"WRITE_ENOSPC": n} | ({"WRITE_MOST": most} if most else {})
     put = (n - 1) * most if most else 0 if n == 1 else len(whole) - 1
-    faulty(name, data, Failure(b"standard output", whole, min(put, 5), put, False), faults)
+    faulty(name, data, Failure(b"apsrun: stdout: ", whole, min(put, 5), put, False), faults)
 
 
 for n, most in ((1, None), (2, None), (3, None), (2, 1), (6, 1), (7, 1), (54, 1), (2, 3), (1000, 48), (200, 1000), (3, 100000)):
     write_fails("5000 records", *LONG, n, most)
 write_fails("8193 records", *LONGEST, 4)
-faulty("5000 records", LONG[0], Failure(b"standard output", LONG[1], 5, 5, True), {"READ_EIO": 10, "WRITE_ENOSPC": 2})
+faulty("5000 records", LONG[0], Failure(b"apsrun: stdout: ", LONG[1], 5, 5, True), {"READ_EIO": 10, "WRITE_ENOSPC": 2})
 write_fails("a header alone", script(), log(), 1)
 write_fails("a header of version 2", b"APS\x00\x02", b"refused 12\n", 1)
 write_fails("a header of version 2", b"APS\x00\x02", b"refused 12\n", 11, 1)
 
 # 6. Reads and writes that the system refuses.
-case("a directory as standard input", b"", Failure(b"standard input", b"", 0, 0, True), stdin=FOLDER)
-FULL = Failure(b"standard output", b"", 0, 0, False)
+case("a directory as standard input", b"", Failure(b"apsrun: stdin: ", b"", 0, 0, True), stdin=FOLDER)
+FULL = Failure(b"apsrun: stdout: ", b"", 0, 0, False)
 case("a header with standard output /dev/full", script(), FULL, stdout="/dev/full")
 case("a header of version 2 with standard output /dev/full", b"APS\x00\x02", FULL, stdout="/dev/full")
 case("5000 records with standard output /dev/full", LONG[0], FULL, stdout="/dev/full")
 for room in (100000, 200000):  # the last write that fits is cut short, in the first large one and in the second
-    want = Failure(b"standard output", LONGEST[1], room, room, False)
+    want = Failure(b"apsrun: stdout: ", LONGEST[1], room, room, False)
     case(f"8193 records into a file of {room} bytes at the most", LONGEST[0], want, room=room)
 
 # 7. 01's bench examples.

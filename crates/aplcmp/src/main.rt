@@ -2,6 +2,7 @@
 // output. It only reads, calls the library `compare`, and writes. A log that is not named, cannot be opened or cannot be read as
 // far as it is needed counts as empty, and a message on standard error says why. Where more than two are named, there is a message
 // and no verdict.
+ghost use mathlib.Core.Path.{_≡_};
 ghost use Prim.Native.Nat.{_≤_};
 ghost use lib.ListN.{length};
 ghost use Rattle.io.specs.Counts.{Counts};
@@ -19,7 +20,16 @@ use stream::Filled;
 // Each log is read in pieces of a whole number of records, as many as 64 KiB have: they are taken whole as long as both logs go on.
 const PIECE: usize = 1365 * entry::LENGTH;
 
-// A log's descriptor, negative where it could not be opened, and how many bytes its name has.
+// What a message begins with.
+const PROGRAM: [u8; BEFORE] = [b'a', b'p', b'l', b'c', b'm', b'p', b':', b' '];
+
+// Its length: the name of a log stands behind it.
+const BEFORE: usize = 8;
+
+// Room for both.
+const NAME: usize = BEFORE + libc::PATH_MAX;
+
+// A log's descriptor, negative where it could not be opened, and how many bytes a message names it by.
 struct Opened {
     fd: i32,
     named: usize,
@@ -38,18 +48,12 @@ fn main() {
 fn say(verdict: Verdict) {
     let mut text = [0; line::LENGTH];
     let length = line::put_line(&mut text, verdict);
-    stream::emit(STDOUT_FILENO, b"aplcmp: standard output", &text[..length]);
-}
-
-// Says why a log cannot be read, just after the call that failed.
-fn complain(name: &[u8]) {
-    io::write_all(STDERR_FILENO, b"aplcmp: ");
-    os::fail(name);
+    stream::emit(STDOUT_FILENO, b"aplcmp: stdout", &text[..length]);
 }
 
 fn compare_named() -> Verdict {
-    let mut name_1 = io::buffer();
-    let mut name_2 = io::buffer();
+    let mut name_1 = name();
+    let mut name_2 = name();
     let first = open(1, &mut name_1);
     let second = open(2, &mut name_2);
     let length_1 = first.named;
@@ -62,24 +66,38 @@ fn compare_named() -> Verdict {
     )
 }
 
-// Opens the log that an argument names, and puts its name into the buffer.
+// A buffer for how a message names a log.
+fn name() -> [u8; NAME]
+    ensures { λ r. ⌜ 4104 ≡ length r ⌝ }
+{
+    let mut name = [0; NAME];
+    let mut i = 0;
+    while i < BEFORE {
+        name[i] = PROGRAM[i];
+        i += 1;
+    }
+    name
+}
+
+// Opens the log that an argument names, and puts that name into the buffer.
 fn open(i: usize, name: &mut [u8]) -> Opened
+    requires { ⌜ 8 ≤ length (now name) ⌝ }
     ensures { λ r. ⌜ Counts (r .named) (now (name .exit)) ⌝ }
 {
-    let length = os::arg(i, name);
+    let named = BEFORE + os::arg(i, &mut name[BEFORE..]);
     if os::errno() == libc::EINVAL {
         // The argument is missing, and main has said so.
         return Opened { fd: -1, named: 0 };
     }
     if os::errno() != 0 {
-        complain(b"the name of a log");
+        os::fail(b"aplcmp: the name of a log");
         return Opened { fd: -1, named: 0 };
     }
-    let fd = os::open_read(&name[..length]);
+    let fd = os::open_read(&name[BEFORE..named]);
     if fd < 0 {
-        complain(&name[..length]);
+        os::fail(&name[..named]);
     }
-    Opened { fd, named: length }
+    Opened { fd, named }
 }
 
 // A log that could not be opened is empty.
@@ -92,11 +110,7 @@ fn read(fd: i32, name: &[u8], buffer: &mut [u8]) -> Filled
             failed: false,
         };
     }
-    let filled = stream::fill(fd, buffer);
-    if filled.failed {
-        complain(name);
-    }
-    filled
+    stream::fill(fd, name, buffer)
 }
 
 // A log whose header cannot be read counts as empty.

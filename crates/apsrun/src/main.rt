@@ -80,14 +80,10 @@ fn run() {
 fn fill(buffer: &mut [u8]) -> Filled
     ensures { λ r. ⌜ Counts (r .count) (now (buffer .exit)) ⌝ }
 {
-    let filled = stream::fill(STDIN_FILENO, buffer);
-    if filled.failed {
-        os::fail(b"apsrun: standard input");
-    }
-    filled
+    stream::fill(STDIN_FILENO, b"apsrun: stdin", buffer)
 }
 
 // Whether all could be written.
 fn emit(bytes: &[u8]) -> bool {
-    stream::emit(STDOUT_FILENO, b"apsrun: standard output", bytes) == bytes.len()
+    stream::emit(STDOUT_FILENO, b"apsrun: stdout", bytes) == bytes.len()
 }

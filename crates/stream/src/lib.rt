@@ -1,5 +1,6 @@
-// Reading and writing by file descriptor, for programs. A proved loop has to end, and nothing says that a file does: the loops
-// count their turns down, from a number that no run uses up.
+// Reading and writing by file descriptor, for programs. A call that fails says so on standard error, by the name that it is given.
+// A proved loop has to end, and nothing says that a file does: the loops count their turns down, from a number that no run uses
+// up.
 ghost use Prim.Native.Nat.{_≤_};
 ghost use lib.ListN.{length};
 ghost use Rattle.io.specs.Counts.{Counts};
@@ -9,13 +10,12 @@ use libc::STDERR_FILENO;
 pub struct Filled {
     // How many bytes came: fewer than the buffer holds where the input ended, or where a read failed.
     pub count: usize,
-    // A read failed: why, says `os::errno`.
     pub failed: bool,
 }
 
 // Reads until the buffer is full or the input ends. A read may bring fewer bytes than were asked for, and one that a signal
 // interrupts is made again.
-pub fn fill(fd: i32, buffer: &mut [u8]) -> Filled
+pub fn fill(fd: i32, name: &[u8], buffer: &mut [u8]) -> Filled
     ensures { λ r. ⌜ Counts (r .count) (now (buffer .exit)) ⌝ }
 {
     let mut count = 0;
@@ -37,6 +37,7 @@ pub fn fill(fd: i32, buffer: &mut [u8]) -> Filled
         }
         if got < 0 {
             if os::errno() != libc::EINTR {
+                os::fail(name);
                 return Filled {
                     count,
                     failed: true,
@@ -52,8 +53,8 @@ pub fn fill(fd: i32, buffer: &mut [u8]) -> Filled
     }
 }
 
-// Writes the bytes, and answers how many it could: fewer than all where a write failed, which it says on standard error, by the
-// name that it is given. A write may take fewer than it was given, and one that a signal interrupts is made again.
+// Writes the bytes, and answers how many it could: fewer than all where a write failed. A write may take fewer than it was given,
+// and one that a signal interrupts is made again.
 pub fn emit(fd: i32, name: &[u8], bytes: &[u8]) -> usize
     ensures { λ r. ⌜ r ≤ length (now (bytes .entry)) ⌝ }
 {

@@ -8,10 +8,10 @@ use Rattle.stream.proofs.fill.Statement.{statement}
 use Rattle.stream.proofs.fill.Tie as tie
 
 abbrev Inv-loop : tie.InvT-loop
-Inv-loop fd buffer₀ count₀ turns₀ buffer count turns = (count ≤ length buffer) × (length buffer ≡ length buffer₀)
+Inv-loop fd name buffer₀ count₀ turns₀ buffer count turns = (count ≤ length buffer) × (length buffer ≡ length buffer₀)
 
 abbrev μ-loop : tie.MeasureT-loop
-μ-loop fd buffer₀ count₀ turns₀ buffer count turns = turns
+μ-loop fd name buffer₀ count₀ turns₀ buffer count turns = turns
 
 pub fill-spec : {M : Type 1} → statement M
 fill-spec =
@@ -19,7 +19,7 @@ fill-spec =
     (tie.spec Inv-loop μ-loop (λ c. search needs) (λ c. search needs) (λ c. search needs)
     (λ c. (search needs, front-length _ _ (search needs))) (λ c. search needs) (λ c. search needs) (λ c. search needs)
     (λ c κs. search needs) (λ c. search needs) (λ c. (search needs, front-length _ _ (search needs)))
-    (λ c κs. search needs) (λ c. search needs)
+    (λ c κs. search needs) (λ c κs. search needs) (λ c. search needs)
     (λ c. (search needs, front-length _ _ (search needs))) (λ c. search needs) (λ c. search needs) (λ c. search needs)
     (λ c. search needs) (λ c. search needs) (λ c κs. search needs) (λ c. search needs) (λ c. search needs)
     (λ c. search needs) (λ c. search needs) (λ c. (search needs, front-length _ _ (search needs))))
