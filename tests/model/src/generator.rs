@@ -40,6 +40,43 @@ pub const FAMILIES: [Family; 9] = [
     Family::Long,
 ];
 
+impl Family {
+    pub fn name(self) -> &'static str {
+        match self {
+            Family::Timers => "timers",
+            Family::Short => "short",
+            Family::Serial => "serial",
+            Family::Windows => "windows",
+            Family::Mixed => "mixed",
+            Family::Damaged => "damaged",
+            Family::Headers => "headers",
+            Family::Bytes => "bytes",
+            Family::Long => "long",
+        }
+    }
+
+    /// What its scripts hold, in a line.
+    pub fn description(self) -> &'static str {
+        match self {
+            Family::Timers => "the timer unit, with advances and skips of every length up to 2^64-1 cycles",
+            Family::Short => {
+                "the timer unit with small periods; advances and skips ask for at most 100,000 cycles in \
+                 all, so that a simulator that steps single cycles can be tried"
+            }
+            Family::Serial => {
+                "the serial ports: full and drained queues, the receiver off; now and then an advance or a \
+                 skip, of any length"
+            }
+            Family::Windows => "accesses of all sizes at and around the windows' edges; no time passes",
+            Family::Mixed => "timers, serial and windows, mixed",
+            Family::Damaged => "mixed with malformed records between, or each kind with each blank set",
+            Family::Headers => "good and bad headers, some cut short, with a few records of mixed or none",
+            Family::Bytes => "random bytes, most of them behind a good header",
+            Family::Long => "mixed, with 250 to 4,101 records, and a part of one more behind most of them",
+        }
+    }
+}
+
 /// The most cycles that the advances and skips of a `Short` script ask for in all.
 pub const SHORT_TOTAL: u64 = 100_000;
 

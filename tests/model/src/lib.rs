@@ -5,11 +5,13 @@
 //! The program holds one machine that starts at reset and changes it by accepted calls only, so no
 //! state of it is ever ill formed and number 9 cannot arise.
 //!
-//! Beside it, and apart from the machine: the comparison of two logs that 02, No. 1 asks for.
+//! Beside it, and apart from the machine: the comparison of two logs that 02, No. 1 asks for, the
+//! generator of scripts, and what runs another program on them.
 
 pub mod board;
 pub mod generator;
 pub mod logs;
+pub mod program;
 pub mod random;
 pub mod refusal;
 pub mod script;

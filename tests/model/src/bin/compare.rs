@@ -1,58 +1,115 @@
-//! Compares a program with the model, byte for byte, on the scripts of many seeds; and, on scripts
-//! with short spans, the model's arithmetic with its own single cycles.
+//! Compares a program with the model, byte for byte, on the scripts of many seeds; and, apart from the
+//! program, the model with itself: its arithmetic with its single cycles where spans are short.
 
-use std::fmt::Write as _;
-use std::io::{ErrorKind, Read, Write};
-use std::process::{ChildStdin, Command, ExitCode, Stdio};
-use std::sync::mpsc;
-use std::thread;
+use std::ffi::OsString;
+use std::fmt::{self, Write as _};
+use std::process::ExitCode;
 use std::time::Duration;
 
 use model::generator::{self, Family, FAMILIES};
-use model::random::Random;
+use model::program::{self, Failure};
 use model::script::{run, Call, Mode, CALL_LENGTH, ENTRY_LENGTH, LOG_HEADER, SCRIPT_HEADER};
 
-/// Failures that are described; later ones are only counted.
+const USAGE: &str = "\
+usage: compare PROGRAM [--first SEED] [--count N] [--patience SECONDS]
+       PROGRAM on the scripts of N seeds from SEED on; 0, 1000 and 20 where not named
+       a program that takes longer than SECONDS for one script is killed, which is a failure
+       N and SECONDS are 1 or more, and SEED + N is at most 2^64";
+
+/// Failures that are described, of the program and of the model; later ones are only counted.
 const DESCRIBED: u64 = 5;
-/// A program that takes longer for one script is stopped, which is a failure.
-const PATIENCE: Duration = Duration::from_secs(20);
+/// Scripts in a row without an end after which no more are tried.
+const LATE_IN_A_ROW: u32 = 3;
 /// Numbers that scripts can show, and must have shown once that many have run.
 const SHOWN: [usize; 12] = [0, 1, 2, 3, 4, 5, 6, 7, 8, 10, 11, 12];
 const ENOUGH_TO_SHOW: u64 = 1000;
 
 fn main() -> ExitCode {
-    let Some((program, first, count)) = arguments() else {
-        eprintln!("usage: compare PROGRAM [--first SEED] [--count N], with N of 1 or more");
-        return ExitCode::from(2);
-    };
-    let mut tally = Tally::default();
-    for seed in first..first + count {
-        let script = generator::script(seed);
-        let log = model_log(&script, Mode::Arithmetic);
-        tally.note(seed, &log);
-        let other = program_log(&program, seed, &script, log.len());
-        tally.judge(seed, &script, &log, other, "program");
-        if generator::family(seed) == Family::Short {
-            let slow = model_log(&script, Mode::SingleCycle);
-            tally.judge(seed, &script, &log, Ok(slow), "single cycles");
+    let arguments: Vec<OsString> = std::env::args_os().skip(1).collect();
+    if let [only] = &arguments[..] {
+        if only == "--help" || only == "-h" {
+            println!("{USAGE}");
+            return ExitCode::SUCCESS;
         }
     }
-    tally.report(count)
+    let Some(task) = Task::new(arguments) else {
+        eprintln!("{USAGE}");
+        return ExitCode::from(2);
+    };
+    program::die_together();
+    if let Err(reason) = task.try_header() {
+        println!("no script was run, for the program fails on a header alone: {reason}");
+        println!("0 passed, 1 failed");
+        return ExitCode::FAILURE;
+    }
+    task.compare().report()
 }
 
-fn arguments() -> Option<(String, u64, u64)> {
-    let mut arguments = std::env::args().skip(1);
-    let program = arguments.next()?;
-    let (mut first, mut count) = (0, 1000);
-    while let Some(option) = arguments.next() {
-        let place = match option.as_str() {
-            "--first" => &mut first,
-            "--count" => &mut count,
-            _ => return None,
-        };
-        *place = arguments.next()?.parse().ok()?;
+struct Task {
+    program: OsString,
+    first: u64,
+    last: u64,
+    patience: Duration,
+}
+
+impl Task {
+    fn new(arguments: Vec<OsString>) -> Option<Task> {
+        let mut arguments = arguments.into_iter();
+        let program = arguments.next().filter(|name| !name.as_encoded_bytes().starts_with(b"-"))?;
+        let (mut first, mut count, mut patience) = (None, None, None);
+        while let Some(option) = arguments.next() {
+            let place = match option.to_str()? {
+                "--first" => &mut first,
+                "--count" => &mut count,
+                "--patience" => &mut patience,
+                _ => return None,
+            };
+            let number: u64 = arguments.next()?.to_str()?.parse().ok()?;
+            if place.replace(number).is_some() {
+                return None;
+            }
+        }
+        let first = first.unwrap_or(0);
+        let last = first.checked_add(count.unwrap_or(1000).checked_sub(1)?)?;
+        let patience = Duration::from_secs(patience.unwrap_or(20));
+        (!patience.is_zero()).then_some(Task { program, first, last, patience })
     }
-    (count > 0 && u64::checked_add(first, count).is_some()).then_some((program, first, count))
+
+    /// Whether the program does anything at all, before thousands of scripts show that it does not.
+    fn try_header(&self) -> Result<(), String> {
+        let log =
+            self.program_log(0, &SCRIPT_HEADER, LOG_HEADER.len()).map_err(|failure| failure.to_string())?;
+        if log != LOG_HEADER {
+            return Err(format!("its log starts \"{}\" and is not \"{}\"", start(&log), start(&LOG_HEADER)));
+        }
+        Ok(())
+    }
+
+    fn compare(&self) -> Tally {
+        let mut tally = Tally::default();
+        let mut late = 0;
+        for seed in self.first..=self.last {
+            let script = generator::script(seed);
+            let log = model_log(&script, Mode::Arithmetic);
+            tally.note(seed, &log);
+            let other = self.program_log(seed, &script, log.len());
+            late = if let Err(Failure::Late(..)) = other { late + 1 } else { 0 };
+            tally.program.judge(seed, &script, &log, other, "program");
+            if generator::family(seed) == Family::Short {
+                let slow = model_log(&script, Mode::SingleCycle);
+                tally.model.judge(seed, &script, &log, Ok(slow), "single cycles");
+            }
+            if late == LATE_IN_A_ROW {
+                println!("given up: {late} scripts in a row had no end after {:?}", self.patience);
+                break;
+            }
+        }
+        tally
+    }
+
+    fn program_log(&self, seed: u64, script: &[u8], expected: usize) -> Result<Vec<u8>, Failure> {
+        program::log(&self.program, seed, script, expected, self.patience)
+    }
 }
 
 fn model_log(script: &[u8], mode: Mode) -> Vec<u8> {
@@ -61,74 +118,46 @@ fn model_log(script: &[u8], mode: Mode) -> Vec<u8> {
     log
 }
 
-/// Runs the program on a script. Of the log, at most one record more than expected is taken. Exit
-/// statuses are not laid down, but death by a signal is an error.
-fn program_log(program: &str, seed: u64, script: &[u8], expected: usize) -> Result<Vec<u8>, String> {
-    let mut child = Command::new(program)
-        .stdin(Stdio::piped())
-        .stdout(Stdio::piped())
-        .stderr(Stdio::null())
-        .spawn()
-        .map_err(|error| format!("cannot start {program}: {error}"))?;
-    let stdin = child.stdin.take().expect("stdin is piped");
-    let stdout = child.stdout.take().expect("stdout is piped");
-    let (sender, receiver) = mpsc::channel();
-    // Writing beside reading, so that neither side waits for the other with a full pipe.
-    let read = thread::scope(|scope| {
-        scope.spawn(|| feed(stdin, seed, script));
-        scope.spawn(move || {
-            let mut log = Vec::new();
-            let result = stdout.take((expected + ENTRY_LENGTH) as u64).read_to_end(&mut log);
-            let _ = sender.send(result.map(|_| log));
-        });
-        let read = receiver.recv_timeout(PATIENCE);
-        if read.is_err() {
-            let _ = child.kill();
-        }
-        read
-    });
-    let status = child.wait().map_err(|error| error.to_string())?;
-    let log = match read {
-        Ok(log) => log.map_err(|error| error.to_string())?,
-        Err(_) => return Err(format!("no end of the log after {PATIENCE:?}")),
-    };
-    if status.code().is_none() && log.len() <= expected {
-        return Err(format!("the program died: {status}"));
-    }
-    Ok(log)
+/// Cases that passed and failed.
+#[derive(Default)]
+struct Count {
+    passed: u64,
+    failed: u64,
 }
 
-/// Writes the script, for every third seed in odd chunks with pauses between, so that the program's
-/// reads are short. A program may close its input early, as for a bad header.
-fn feed(mut stdin: ChildStdin, seed: u64, script: &[u8]) {
-    let mut random = Random::new(!seed);
-    let mut rest = script;
-    if seed % 3 == 1 {
-        for _ in 0..4 {
-            let length =
-                random.pick(&[1, 2, 4, 5, 6, 15, 16, 17, 33, 4090, 4095, 4096, 4097]).min(rest.len());
-            let (chunk, behind) = rest.split_at(length);
-            if write(&mut stdin, chunk) {
-                thread::sleep(Duration::from_micros(150));
-            }
-            rest = behind;
+impl Count {
+    fn judge(&mut self, seed: u64, script: &[u8], log: &[u8], other: Result<Vec<u8>, Failure>, name: &str) {
+        if matches!(&other, Ok(other) if other == log) {
+            self.passed += 1;
+            return;
+        }
+        self.failed += 1;
+        if self.failed > DESCRIBED {
+            return;
+        }
+        let path = std::env::temp_dir().join(format!("model-seed-{seed}.aps"));
+        match std::fs::write(&path, script) {
+            Ok(()) => println!("seed {seed} ({:?}), script in {}", generator::family(seed), path.display()),
+            Err(error) => println!("seed {seed}, script not saved in {}: {error}", path.display()),
+        }
+        match other {
+            Ok(other) => describe(script, log, &other, name),
+            Err(failure) => println!("  {failure}"),
         }
     }
-    write(&mut stdin, rest);
 }
 
-fn write(stdin: &mut ChildStdin, bytes: &[u8]) -> bool {
-    match stdin.write_all(bytes) {
-        Ok(()) => true,
-        Err(error) if error.kind() == ErrorKind::BrokenPipe => false,
-        Err(error) => panic!("the program's input cannot be written: {error}"),
+impl fmt::Display for Count {
+    fn fmt(&self, f: &mut fmt::Formatter) -> fmt::Result {
+        write!(f, "{} passed, {} failed", self.passed, self.failed)
     }
 }
 
 #[derive(Default)]
 struct Tally {
-    passed: u64,
-    failed: u64,
+    program: Count,
+    /// The checks of the model, and of its scripts, that the program has no part in.
+    model: Count,
     scripts: [u64; FAMILIES.len()],
     records: u64,
     numbers: [u64; 13],
@@ -152,33 +181,19 @@ impl Tally {
         }
     }
 
-    fn judge(&mut self, seed: u64, script: &[u8], log: &[u8], other: Result<Vec<u8>, String>, name: &str) {
-        if other.as_deref() == Ok(log) {
-            self.passed += 1;
-            return;
-        }
-        self.failed += 1;
-        if self.failed > DESCRIBED {
-            return;
-        }
-        let path = std::env::temp_dir().join(format!("model-seed-{seed}.aps"));
-        match std::fs::write(&path, script) {
-            Ok(()) => println!("seed {seed} ({:?}), script in {}", generator::family(seed), path.display()),
-            Err(error) => println!("seed {seed}, script not saved in {}: {error}", path.display()),
-        }
-        match other {
-            Ok(other) => describe(script, log, &other, name),
-            Err(error) => println!("  {error}"),
-        }
-    }
-
-    fn report(mut self, count: u64) -> ExitCode {
+    fn report(mut self) -> ExitCode {
+        let count = self.scripts.iter().sum::<u64>();
         if count >= ENOUGH_TO_SHOW {
-            for number in SHOWN.into_iter().filter(|&number| self.numbers[number] == 0) {
-                println!("number {number} was never seen");
-                self.failed += 1;
+            for number in SHOWN {
+                if self.numbers[number] > 0 {
+                    self.model.passed += 1;
+                } else {
+                    println!("number {number} was never seen");
+                    self.model.failed += 1;
+                }
             }
         }
+        println!("the model's checks on itself: {}", self.model);
         let mut line = format!("{count} scripts (");
         for (family, scripts) in FAMILIES.iter().zip(self.scripts) {
             let _ = write!(line, "{family:?} {scripts}, ");
@@ -188,8 +203,8 @@ impl Tally {
             let _ = write!(line, " {number}:{seen}");
         }
         println!("{line}");
-        println!("{} passed, {} failed", self.passed, self.failed);
-        ExitCode::from(u8::from(self.failed > 0))
+        println!("{}", self.program);
+        ExitCode::from(u8::from(self.program.failed + self.model.failed > 0))
     }
 }
 
@@ -197,7 +212,6 @@ impl Tally {
 fn describe(script: &[u8], log: &[u8], other: &[u8], name: &str) {
     let equal = log.iter().zip(other).take_while(|(a, b)| a == b).count();
     if equal < LOG_HEADER.len() || !log.starts_with(&LOG_HEADER) {
-        let start = |log: &[u8]| log[..log.len().min(16)].escape_ascii().to_string();
         println!("  model: \"{}\" ({} bytes)", start(log), log.len());
         println!("  {name}: \"{}\" ({} bytes)", start(other), other.len());
         return;
@@ -207,6 +221,10 @@ fn describe(script: &[u8], log: &[u8], other: &[u8], name: &str) {
     println!("  script: {}", show_call(part(script, SCRIPT_HEADER.len(), index, CALL_LENGTH)));
     println!("  model: {}", show_entry(part(log, LOG_HEADER.len(), index, ENTRY_LENGTH)));
     println!("  {name}: {}", show_entry(part(other, LOG_HEADER.len(), index, ENTRY_LENGTH)));
+}
+
+fn start(log: &[u8]) -> String {
+    log[..log.len().min(16)].escape_ascii().to_string()
 }
 
 /// Record `index` of a file, or what there is of it.
