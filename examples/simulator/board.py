@@ -1,0 +1,299 @@
+"""A small board: six serial ports and a timer unit, as docs/MANUAL.md has them in sections 4 to 7.
+
+Each rule is a method of its own, so that it can be read beside the manual, and so that `slips.py` can break it alone.
+"""
+
+from bridge import Answer
+
+# Section 4: the windows. All are 0x100 long and begin at a multiple of that.
+WINDOW = 0x100
+PORT_BASES = (0x80000100, 0x80100100, 0x80100200, 0x80100300, 0x80100400, 0x80100500)
+TIMER_UNIT_BASE = 0x80000300
+
+# The refusals.
+BAD_SIZE, NO_WINDOW, PAST_END, MISALIGNED, NARROW = 1, 2, 3, 4, 5
+NO_PORT, RECEIVER_OFF, QUEUE_FULL = 6, 7, 8
+
+# Section 5: a port's registers, and the bits of its CONTROL.
+DATA, STATUS, CONTROL, SCALER = 0x00, 0x04, 0x08, 0x0C
+RE, TE, RI, TI = 1 << 0, 1 << 1, 1 << 2, 1 << 3
+ALWAYS_SET = 1 << 31
+STATUS_FIXED = 0x80000086
+DATA_READY = 1 << 0
+
+# Section 6: the timer unit's registers, those of a timer within its 16 bytes, and the bits of a timer's control.
+UNIT_SCALER, UNIT_SRELOAD, UNIT_CONFIG = 0x00, 0x04, 0x08
+TIMER_COUNTER, TIMER_RELOAD, TIMER_CONTROL = 0x0, 0x4, 0x8
+EN, RS, LD, IE, IP, CH = 1 << 0, 1 << 1, 1 << 2, 1 << 3, 1 << 4, 1 << 5
+CONFIG_FIXED = 0x144
+DF = 1 << 9
+
+NEVER = float("inf")  # the tick of what does not happen; it compares and adds with whole numbers as one would expect
+
+
+class SerialPort:
+    ROOM = 8
+    STATUS_COUNT = 1 << 26  # what one byte in the queue adds to STATUS
+
+    def __init__(self):
+        self.reset()
+
+    def reset(self):
+        self.control = ALWAYS_SET
+        self.scaler = 0
+        self.queue = []
+        self.level = 0
+
+    def read(self, offset):
+        if offset == DATA:
+            return self.read_data()
+        if offset == STATUS:
+            return self.status()
+        if offset == CONTROL:
+            return self.control
+        if offset == SCALER:
+            return self.scaler
+        return 0
+
+    def write(self, offset, value):
+        """Returns the byte emitted, or None."""
+        if offset == DATA and self.control & TE:
+            return value & 0xFF
+        if offset == CONTROL:
+            self.control = self.control_written(value)
+            self.work_out_level()
+        if offset == SCALER:
+            self.scaler = value & 0xFF
+        return None
+
+    def read_data(self):
+        return self.queue.pop(0) if self.control & RE and self.queue else 0
+
+    def status(self):
+        return STATUS_FIXED + (DATA_READY if self.queue else 0) + self.STATUS_COUNT * len(self.queue)
+
+    def control_written(self, value):
+        return value | ALWAYS_SET
+
+    def offer(self, byte):
+        """Returns the refusal's number, or 0."""
+        if not self.control & RE:
+            return RECEIVER_OFF
+        if len(self.queue) >= self.ROOM:
+            return QUEUE_FULL
+        self.queue.append(byte)
+        self.work_out_level()
+        return 0
+
+    def work_out_level(self):
+        self.level = int(bool(self.control & RI and self.queue or self.control & TI))
+
+
+def ends_in(steps, first, period):
+    """How many of so many steps end a countdown that ends in step number `first`, and then in every `period`-th."""
+    return 0 if steps < first else 1 + (steps - first) // period
+
+
+class Timer:
+    """How it stands after k counts depends on k alone, so nothing here goes from count to count."""
+
+    def __init__(self, before=None, counter=0, reload=0, control=0):
+        self.before = before  # the timer before it, which timer 1 has not
+        self.counter = counter
+        self.reload = reload
+        self.control = control  # EN, RS, IE, IP and CH
+
+    def read(self, register):
+        return {TIMER_COUNTER: self.counter, TIMER_RELOAD: self.reload, TIMER_CONTROL: self.control}.get(register, 0)
+
+    def write(self, register, value):
+        if register == TIMER_COUNTER:
+            self.counter = value
+        elif register == TIMER_RELOAD:
+            self.reload = value
+        elif register == TIMER_CONTROL:
+            self.control = value & (EN | RS | IE | CH) | self.pending_written(value)
+            if value & LD:
+                self.counter = self.reload
+
+    def pending_written(self, value):
+        """IP after a write of control."""
+        return 0 if value & IP else self.control & IP
+
+    # Which ticks are its counts: how many of the next ticks, and the other way round, in which tick the k-th is.
+
+    def is_enabled(self):
+        return self.control & EN
+
+    def is_chained(self):
+        return self.before and self.control & CH
+
+    def counts_in(self, ticks):
+        if not self.is_enabled():
+            return 0
+        return self.before.underflows_in(ticks) if self.is_chained() else ticks
+
+    def tick_of_count(self, k):
+        if not self.is_enabled():
+            return NEVER
+        return self.before.tick_of_underflow(k) if self.is_chained() else k
+
+    # Which counts are its underflows, in the same two ways.
+
+    def counts_from(self, number):
+        """The counts from this number to the underflow: 0 goes to 0xFFFFFFFF first."""
+        return number or 1 << 32
+
+    def underflows(self, counts):
+        underflows = ends_in(counts, self.counts_from(self.counter), self.counts_from(self.reload))
+        return underflows if self.control & RS else min(underflows, 1)
+
+    def count_of_underflow(self, k):
+        if k > 1 and not self.control & RS:
+            return NEVER
+        return self.counts_from(self.counter) + (k - 1) * self.counts_from(self.reload)
+
+    def underflows_in(self, ticks):
+        return self.underflows(self.counts_in(ticks))
+
+    def tick_of_underflow(self, k):
+        return self.tick_of_count(self.count_of_underflow(k))
+
+    # What counts and underflows do.
+
+    def pulses(self, underflows):
+        """How many of the next underflows have a pulse."""
+        return underflows if self.control & IE else 0
+
+    def counter_after(self, counts, underflows):
+        """Each count takes 1, and each underflow puts the reload on top of the 0 that is left."""
+        return (self.counter - counts + underflows * self.reload) % (1 << 32)
+
+    def count(self, counts):
+        """Do so many counts, and return the number of pulses."""
+        underflows = self.underflows(counts)
+        pulses = self.pulses(underflows)
+        self.counter = self.counter_after(counts, underflows)
+        if underflows:
+            self.control |= IP
+            if not self.control & RS:
+                self.counter = 0
+                self.control &= ~EN
+        return pulses
+
+
+class TimerUnit:
+    Timer = Timer  # a slip puts its own here
+
+    def __init__(self):
+        self.reset()
+
+    def reset(self):
+        self.scaler = self.sreload = 0xFFFF
+        self.df = 0
+        timer1 = self.Timer()
+        timer2 = self.Timer(timer1)
+        timer3 = self.Timer(timer2)
+        timer4 = self.Timer(timer3, counter=0xFFFF, reload=0xFFFF, control=EN | IE)
+        self.timers = (timer1, timer2, timer3, timer4)
+
+    def read(self, offset):
+        n, register = divmod(offset, 0x10)
+        if 1 <= n <= 4:
+            return self.timers[n - 1].read(register)
+        config = CONFIG_FIXED + self.df
+        return {UNIT_SCALER: self.scaler, UNIT_SRELOAD: self.sreload, UNIT_CONFIG: config}.get(offset, 0)
+
+    def write(self, offset, value):
+        n, register = divmod(offset, 0x10)
+        if 1 <= n <= 4:
+            self.timers[n - 1].write(register, value)
+        elif offset == UNIT_SCALER:
+            self.scaler = value & 0xFFFF
+        elif offset == UNIT_SRELOAD:
+            self.sreload = value & 0xFFFF
+        elif offset == UNIT_CONFIG:
+            self.df = value & DF
+
+    # The prescaler, in the same two ways: how many of the next cycles are ticks, and in which cycle the k-th tick is.
+
+    def period(self):
+        return (self.sreload or 0xFFFF) + 1
+
+    def ticks_in(self, cycles):
+        return ends_in(cycles, self.scaler + 1, self.period())
+
+    def cycle_of_tick(self, k):
+        return self.scaler + 1 + (k - 1) * self.period()
+
+    # Section 7.
+
+    def advance(self, cycles):
+        """Do so many cycles, and return the pulses of the four timers."""
+        ticks = self.ticks_in(cycles)
+        self.scaler += ticks * self.period() - cycles  # each cycle takes 1, and each tick gives a period
+        counts = [timer.counts_in(ticks) for timer in self.timers]  # of all of them, before any is changed
+        return tuple(timer.count(k) for timer, k in zip(self.timers, counts))
+
+    def skip(self, limit):
+        """Do cycles up to the first pulse or the limit, and return how many, and the pulses of the four timers."""
+        ends = [timer.tick_of_underflow(1) for timer in self.timers if self.ends_skip(timer)]
+        cycles = min(limit, self.cycle_of_tick(min(ends, default=NEVER)))
+        return cycles, self.advance(cycles)
+
+    def ends_skip(self, timer):
+        """Whether this timer's next underflow ends a skip: it does if it has a pulse."""
+        return timer.pulses(1)
+
+
+class Board:
+    Port = SerialPort  # a slip puts its own here
+    Unit = TimerUnit
+
+    def __init__(self):
+        self.ports = [self.Port() for _ in PORT_BASES]
+        self.unit = self.Unit()
+        self.devices = {**dict(zip(PORT_BASES, self.ports)), TIMER_UNIT_BASE: self.unit}
+
+    @property
+    def levels(self):
+        return sum(port.level << p for p, port in enumerate(self.ports))
+
+    def device(self, address):
+        """The device in whose window the address lies, or None."""
+        return self.devices.get(address - address % WINDOW)
+
+    def refusal(self, size, address):
+        """The first of section 4's numbers whose condition holds, or 0."""
+        if size not in (1, 2, 4):
+            return BAD_SIZE
+        if self.device(address) is None:
+            return NO_WINDOW
+        if address % WINDOW + size > WINDOW:
+            return PAST_END
+        if address % size:
+            return MISALIGNED
+        return NARROW if size < 4 else 0
+
+    def read(self, size, address):
+        number = self.refusal(size, address)
+        return Answer(number=number) if number else Answer(value=self.device(address).read(address % WINDOW))
+
+    def write(self, size, address, value):
+        number = self.refusal(size, address)
+        return Answer(number=number) if number else Answer(emitted=self.device(address).write(address % WINDOW, value))
+
+    def offer(self, port, byte):
+        return Answer(number=self.ports[port].offer(byte) if port < len(self.ports) else NO_PORT)
+
+    def advance(self, cycles):
+        return Answer(cycles=cycles, pulses=self.unit.advance(cycles))
+
+    def skip(self, limit):
+        cycles, pulses = self.unit.skip(limit)
+        return Answer(cycles=cycles, pulses=pulses)
+
+    def reset(self):
+        for device in self.devices.values():
+            device.reset()
+        return Answer()

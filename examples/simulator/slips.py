@@ -1,0 +1,189 @@
+"""Boards with one slip each, to see how a failure is shown. SLIPS has them by name: the class, and what is wrong."""
+
+from board import CH, EN, IP, NO_WINDOW, PAST_END, RE, RS, Board, SerialPort, Timer, TimerUnit
+from bridge import Answer
+
+SLIPS = {}
+
+
+def slip(name, description):
+    def register(board):
+        SLIPS[name] = board, description
+        return board
+
+    return register
+
+
+# The seven of docs/MANUAL.md, section 10.
+
+
+@slip("prescaler-period", "the prescaler's period is its reload, in place of reload + 1")
+class PrescalerPeriod(Board):
+    class Unit(TimerUnit):
+        def period(self):
+            return self.sreload or 0xFFFF
+
+
+@slip("chain-late", "a chained timer counts one tick after the underflow before it, in place of in the same tick")
+class ChainLate(Board):
+    class Unit(TimerUnit):
+        class Timer(Timer):
+            carried = 0  # 1 if it underflowed in the last tick, so that the next timer's count is still to come
+
+            def counts_in(self, ticks):
+                if not (self.is_enabled() and self.is_chained() and ticks):
+                    return super().counts_in(ticks)
+                return self.before.carried + self.before.underflows_in(ticks - 1)
+
+            def tick_of_count(self, k):
+                if not (self.is_enabled() and self.is_chained()):
+                    return super().tick_of_count(k)
+                k -= self.before.carried
+                return 1 + self.before.tick_of_underflow(k) if k else 1
+
+        def advance(self, cycles):
+            ticks = self.ticks_in(cycles)
+            in_last_tick = [timer.underflows_in(ticks) - timer.underflows_in(ticks - 1) for timer in self.timers]
+            pulses = super().advance(cycles)
+            if ticks:
+                for timer, underflows in zip(self.timers, in_last_tick):
+                    timer.carried = underflows
+            return pulses
+
+
+@slip("pulse-withheld", "an underflow makes no pulse while IP is still set")
+class PulseWithheld(Board):
+    class Unit(TimerUnit):
+        class Timer(Timer):
+            def pulses(self, underflows):
+                return 0 if self.control & IP else min(super().pulses(underflows), 1)
+
+
+@slip("one-shot-twice", "a one-shot timer underflows again after its reload, if that falls into the same advance")
+class OneShotTwice(Board):
+    class Unit(TimerUnit):
+        class Timer(Timer):
+            def underflows(self, counts):
+                twice = counts >= self.counts_from(self.counter) + self.counts_from(self.reload)
+                return 2 if twice and not self.control & RS else super().underflows(counts)
+
+
+@slip("ip-cleared-by-0", "a 0 written to IP clears it and a 1 keeps it, in place of the other way round")
+class IpClearedBy0(Board):
+    class Unit(TimerUnit):
+        class Timer(Timer):
+            def pending_written(self, value):
+                return self.control & value & IP
+
+
+@slip("data-read-drops", "a DATA read with RE off answers 0 but drops the oldest byte")
+class DataReadDrops(Board):
+    class Port(SerialPort):
+        def read_data(self):
+            byte = self.queue.pop(0) if self.queue else 0
+            return byte if self.control & RE else 0
+
+
+@slip("cut-advance", "an advance right after an advance begins a new prescaler period, so that cuts matter")
+class CutAdvance(Board):
+    just_advanced = False
+
+    def advance(self, cycles):
+        if self.just_advanced:
+            self.unit.scaler = self.unit.period() - 1
+        self.just_advanced = True
+        return super().advance(cycles)
+
+    def ends_advances(method):
+        def other_record(self, *arguments):
+            self.just_advanced = False
+            return method(self, *arguments)
+
+        return other_record
+
+    read, write, offer = ends_advances(Board.read), ends_advances(Board.write), ends_advances(Board.offer)
+    skip, reset = ends_advances(Board.skip), ends_advances(Board.reset)
+
+
+# Further ones.
+
+
+@slip("level-falls", "the level falls as soon as the last byte is read")
+class LevelFalls(Board):
+    class Port(SerialPort):
+        def read_data(self):
+            byte = super().read_data()
+            self.work_out_level()
+            return byte
+
+
+@slip("ninth-byte", "a queue has room for 9 bytes")
+class NinthByte(Board):
+    class Port(SerialPort):
+        ROOM = 9
+
+
+@slip("bit-31", "bit 31 of a port's CONTROL is stored as written, in place of always set")
+class Bit31(Board):
+    class Port(SerialPort):
+        def control_written(self, value):
+            return value
+
+
+@slip("status-count", "the number of bytes in STATUS stands one bit too low")
+class StatusCount(Board):
+    class Port(SerialPort):
+        STATUS_COUNT = 1 << 25
+
+
+@slip("past-end", "an access that runs past its window's end is refused with 2, in place of 3")
+class PastEnd(Board):
+    def refusal(self, size, address):
+        number = super().refusal(size, address)
+        return NO_WINDOW if number == PAST_END else number
+
+
+@slip("skip-without-ie", "a skip ends at an underflow with IE 0 too")
+class SkipWithoutIe(Board):
+    class Unit(TimerUnit):
+        def ends_skip(self, timer):
+            return True
+
+
+@slip("timer-1-chained", "timer 1 obeys CH, and so does not count while it is set")
+class Timer1Chained(Board):
+    class Unit(TimerUnit):
+        class Timer(Timer):
+            def is_enabled(self):
+                return self.control & EN and (self.before or not self.control & CH)
+
+
+@slip("zero-underflows", "a counter at 0 underflows at the next count, in place of 2^32 counts later")
+class ZeroUnderflows(Board):
+    class Unit(TimerUnit):
+        class Timer(Timer):
+            def counts_from(self, number):
+                return number or 1
+
+            def counter_after(self, counts, underflows):
+                if underflows and not self.reload:
+                    return 0
+                from_0 = counts > 0 and self.counter == 0  # this count takes nothing
+                return super().counter_after(counts, underflows) + from_0
+
+
+@slip("reset-keeps-queues", "a reset leaves the bytes in the queues")
+class ResetKeepsQueues(Board):
+    class Port(SerialPort):
+        queue = ()
+
+        def reset(self):
+            kept = list(self.queue)
+            super().reset()
+            self.queue = kept
+
+
+@slip("long-advance", "an advance of 2^63 cycles or more does one cycle too few")
+class LongAdvance(Board):
+    def advance(self, cycles):
+        return Answer(cycles=cycles, pulses=self.unit.advance(cycles - (cycles >= 1 << 63)))

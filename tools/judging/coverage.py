@@ -1,0 +1,125 @@
+"""What the scripts that were judged met, by the scripts themselves and the reference's logs of them."""
+from collections import Counter
+
+import formats
+
+EDGES = ["before", "first word", "last word", "across the end", "behind"]
+
+# All that there is to meet, part by part.
+TO_MEET = {
+    "kinds of records": [*formats.RECORDS, formats.MALFORMED, formats.CUT_SHORT],
+    "registers": [f"{way} {register}" for register in formats.REGISTERS for way in ("read", "write")],
+    "refusal numbers": [str(number) for number in formats.NUMBERS],
+    "windows' edges": [f"{window}: {edge}" for window in formats.WINDOWS for edge in EDGES],
+    "queue depths": [f"port{p}: {depth}" for p in range(formats.PORTS) for depth in range(formats.QUEUE_DEPTH + 1)],
+}
+EXPLAINED = {
+    "kinds of records": "records of each kind, refused ones too",
+    "registers": "accepted accesses",
+    "refusal numbers": "log records with each number; 11 and 12: scripts with a bad header. 9 is for an ill-formed state, "
+                       "which no script can make",
+    "windows' edges": "accesses of any size that begin in the 4 bytes before the window, accepted ones of its first and last "
+                      "word, those refused with 3, and those that begin in the 4 bytes behind it",
+    "queue depths": "how often an accepted byte, a read or a reset brought the port's receive queue to each depth",
+}
+
+
+class Coverage:
+    """Counts of what was met."""
+
+    def __init__(self):
+        self.met = {part: Counter() for part in TO_MEET}
+        self.records = 0
+
+    def add(self, other):
+        self.records += other.records
+        for part, counts in other.met.items():
+            self.met[part].update(counts)
+
+    def never(self):
+        return {part: [name for name in names if not self.met[part][name]] for part, names in TO_MEET.items()}
+
+    def note(self, script, log):
+        """Counts what a script and its log, a stream, show."""
+        kinds, numbers = self.met["kinds of records"], self.met["refusal numbers"]
+        refused = formats.script_refusal(script)
+        if refused:
+            numbers[str(refused)] += 1
+            return
+        queues = Queues(self.met["queue depths"])
+        log.read(formats.HEADER_LENGTH)
+        begin, length = formats.HEADER_LENGTH, formats.RECORD_LENGTH
+        for place, entry in enumerate(formats.pieces(log, formats.ENTRY_LENGTH)):
+            name, values = formats.decode(script[begin + length * place:begin + length * (place + 1)])
+            self.records += 1
+            kinds[name] += 1
+            numbers[str(entry[0])] += 1
+            accepted = entry[0] == 0
+            if name in ("read", "write"):
+                self.access(name, values, entry[0])
+            if accepted:
+                queues.step(name, values)
+
+    def access(self, name, values, number):
+        address = values[1]
+        if number == 0 and address in formats.NAMES:
+            self.met["registers"][f"{name} {formats.NAMES[address]}"] += 1
+        edges = self.met["windows' edges"]
+        for edge, accepted_only in AT_EDGES.get(address, ()):
+            if number == 0 or not accepted_only:
+                edges[edge] += 1
+        if number == 3:
+            edges[f"{window_of(address)}: across the end"] += 1
+
+
+def at_edges():
+    """For each address at a window's edge, the edges that an access there meets, and whether only if it is accepted."""
+    found = {}
+    for window, (base, length) in formats.WINDOWS.items():
+        for edge, addresses, accepted_only in (
+            ("before", range(base - 4, base), False),
+            ("first word", [base], True),
+            ("last word", [base + length - 4], True),
+            ("behind", range(base + length, base + length + 4), False),
+        ):
+            for address in addresses:
+                found.setdefault(address, []).append((f"{window}: {edge}", accepted_only))
+    return found
+
+
+AT_EDGES = at_edges()
+
+
+def window_of(address):
+    return next(window for window, (base, length) in formats.WINDOWS.items() if base <= address < base + length)
+
+
+DATA = {address: int(name[4]) for name, address in formats.REGISTERS.items() if name.endswith(".DATA")}
+CONTROL = {address: int(name[4]) for name, address in formats.REGISTERS.items() if name.endswith(".CONTROL")}
+
+
+class Queues:
+    """How many bytes wait in each port, by the calls that were accepted."""
+
+    def __init__(self, depths):
+        self.depths = depths
+        self.waiting, self.receiving = [0] * formats.PORTS, [False] * formats.PORTS
+
+    def reach(self, port, depth):
+        if self.waiting[port] != depth:
+            self.waiting[port] = depth
+            self.depths[f"port{port}: {depth}"] += 1
+
+    def step(self, name, values):
+        if name == "offer":
+            self.reach(values[0], self.waiting[values[0]] + 1)
+        elif name == "read" and values[1] in DATA:
+            port = DATA[values[1]]
+            if self.receiving[port] and self.waiting[port]:
+                self.reach(port, self.waiting[port] - 1)
+        elif name == "write" and values[1] in CONTROL:
+            self.receiving[CONTROL[values[1]]] = values[2] & 1 == 1
+        elif name == "reset":
+            for port in range(formats.PORTS):
+                self.reach(port, 0)
+            self.receiving = [False] * formats.PORTS

@@ -1,0 +1,162 @@
+"""A failure explained: the smallest script found, what was expected and what came, side by side, in the text form."""
+import os
+from typing import NamedTuple
+
+import formats
+from judging.scripts import records
+from judging.verdicts import FAILED, Verdict, contents
+from judging.shrink import Shrinker
+
+SHOWN = 40  # records of a script, the last ones before the difference
+
+
+class Failure(NamedTuple):
+    """A script that failed, and the smaller one that was made of it."""
+
+    name: str
+    form: str
+    line: str  # the verdict on the script as it was given
+    script: bytes
+    verdict: Verdict  # on the smaller script
+    small: bytes
+    shrunk: str  # how that went, in words
+    expected: bytes  # what is written for the smaller script, as far as it is shown
+    got: bytes
+
+
+def shrunk_failure(result, judge, folder, seconds):
+    """Shrinks a script that failed."""
+    script, verdict = result.script(), result.verdict
+    again = judge.judge(script, folder)
+    if again.state != FAILED or again.alike != verdict.alike:
+        how = f"not shrunk, since on the same script again the simulator came to another result: {again.line}"
+        return failure(result, script, again, script, how, folder)
+    if not seconds or verdict.alike == ("start",):
+        return failure(result, script, again, script, "not shrunk", folder)
+
+    def fails(candidate):
+        found = judge.judge(candidate, folder)
+        return found.state == FAILED and found.alike == verdict.alike
+
+    shrinker = Shrinker(script, fails, seconds)
+    small = shrinker.shrink(again.place)
+    how = f"shrunk from {len(records(script))} records to {len(records(small))}, by {shrinker.tries} runs"
+    if shrinker.stopped:
+        how += "; there its time was over (--shrink), so it may not be the smallest"
+    return failure(result, script, judge.judge(small, folder), small, how, folder)
+
+
+def failure(result, script, found, small, how, folder):
+    logs = [os.path.join(folder, name) for name in ("expected.apl", "got.apl")]
+    expected, got = (contents(log) if os.path.exists(log) else b"" for log in logs)
+    return Failure(result.name, result.source.form, result.verdict.line, script, found, small, how, expected, got)
+
+
+def signature(script, verdict):
+    """What tells failures apart that are shown beside each other: the field, and the kind of record and register."""
+    place = verdict.place
+    if not place:
+        return verdict.alike
+    name, values = formats.decode(records(script)[place - 1])
+    register = formats.NAMES.get(values[1], "") if name in ("read", "write") else ""
+    return (*verdict.alike, name, register.translate(str.maketrans("", "", "0123456789")))
+
+
+def entry(log, place):
+    begin = formats.HEADER_LENGTH + formats.ENTRY_LENGTH * (place - 1)
+    return log[begin:begin + formats.ENTRY_LENGTH]
+
+
+def explanation(failure):
+    """The lines that explain a failure."""
+    verdict = failure.verdict
+    yield f"{failure.name} ({failure.form}): {failure.line}"
+    if verdict.alike == ("start",):
+        return
+    yield f"  {failure.shrunk}:"
+    yield ""
+    yield from script_lines(failure)
+    yield ""
+    if verdict.alike[:1] == ("header",):
+        yield f"  expected  {failure.expected!r}"
+        yield f"  got       {shortened(failure.got)}"
+    elif verdict.place:
+        yield from side_by_side(failure)
+    else:
+        yield f"  {meaning(failure)}"
+    if verdict.errors:
+        yield "  the simulator's standard error:"
+        lines = verdict.errors.decode("utf-8", "replace").splitlines()
+        yield from (f"    {line}" for line in lines[:12])
+        if len(lines) > 12:
+            yield f"    .. and {len(lines) - 12} more lines"
+    if verdict.status > 0:
+        yield f"  the simulator's exit status: {verdict.status}"
+
+
+def script_lines(failure):
+    lines = []
+    if formats.script_refusal(failure.small):
+        lines.append("header " + failure.small[:formats.HEADER_LENGTH].hex(" "))
+    parts = records(failure.small)
+    end = failure.verdict.place or len(parts)
+    begin = max(0, end - SHOWN)
+    if begin:
+        yield f"    .. {begin} records before these"
+    for line in lines:
+        yield f"          {line}"
+    for place in range(begin, end):
+        mark = ">" if place + 1 == failure.verdict.place else " "
+        yield f"  {mark} {place + 1:4}  {formats.record_line(parts[place])}{written_bits(parts[place])}"
+    if not lines and not parts:
+        yield "          (a header, and no record)"
+
+
+def written_bits(record):
+    """The named bits of what a record writes, as a comment."""
+    name, values = formats.decode(record)
+    register = formats.NAMES.get(values[1], "") if name == "write" and values[0] == 4 else ""
+    bits = formats.register_bits(register, values[2]) if register else ""
+    return f"  # {bits}" if bits else ""
+
+
+def side_by_side(failure):
+    """The fields of the first record that differ, the first of them marked."""
+    place = failure.verdict.place
+    record = records(failure.small)[place - 1]
+    expected, got = (formats.entry_fields(entry(log, place)) for log in (failure.expected, failure.got))
+    name, values = formats.decode(record)
+    register = formats.NAMES.get(values[1], "") if name == "read" else ""
+    for shown in (expected, got):
+        bits = formats.register_bits(register, int(shown["value"], 16))
+        shown["value"] += f" ({bits})" if bits else ""
+    differ = [field for field in expected if expected[field] != got[field]]
+    width = max(len("expected"), *(len(expected[field]) for field in differ))
+    other = max(len("got"), *(len(got[field]) for field in differ))
+    yield f"  record {place}   {'expected':{width}}   got"
+    for field in differ:
+        mark = "   the first field that differs" if field == differ[0] and len(differ) > 1 else ""
+        yield f"  {field:{len(f'record {place}')}}   {expected[field]:{width}}   {got[field]:{other if mark else 0}}{mark}"
+
+
+def meaning(failure):
+    """What a verdict without a differing record says, in words."""
+    verdict = failure.verdict
+    written = max(0, verdict.length - formats.HEADER_LENGTH) // formats.ENTRY_LENGTH
+    right = formats.records_of(len(failure.small))
+    if verdict.line == "beginning 2":
+        return f"the log is too short: it has {written} of {right} records, and no record differs"
+    if verdict.line == "beginning 1":
+        return f"the log is too long: it has more than the {right} records that are right, and no record differs"
+    if verdict.line == "partial 2":
+        return f"the log ends in a part of a record, behind {written} whole records; right are {right}"
+    if verdict.line.startswith("refused 2"):
+        what = "has another version than 1" if verdict.line.endswith("12") else "has another mark, or fewer than 5 bytes"
+        return f"what was written is no log: it {what}. It begins with {shortened(failure.got)}"
+    return f"the simulator {verdict.line}; {written} of {right} log records had come by then"
+
+
+def shortened(data):
+    if not data:
+        return "nothing"
+    return f"{data[:48]!r}" + (f" .. ({len(data)} bytes)" if len(data) > 48 else "")

@@ -1,0 +1,220 @@
+"""The report of a judgement, as text and as JSON, and the folders of its failures."""
+import hashlib
+import io
+import json
+import os
+import shutil
+import subprocess
+
+import formats
+from judging.coverage import EXPLAINED, TO_MEET
+from judging.explain import explanation
+from judging.verdicts import FAILED, NOT_JUDGED, PASSED
+
+
+def digest(path):
+    """A file's SHA-256."""
+    found = hashlib.sha256()
+    with open(path, "rb") as file:
+        while piece := file.read(1 << 20):
+            found.update(piece)
+    return found.hexdigest()
+
+
+def said(root, *command):
+    """What a command prints, or None."""
+    try:
+        ran = subprocess.run(command, cwd=root, stdin=subprocess.DEVNULL, capture_output=True)
+    except OSError:
+        return None
+    return ran.stdout.decode("utf-8", "replace").strip() if ran.returncode == 0 else None
+
+
+def model(root, reference, proved, generator):
+    """What the judgement is made by."""
+    commit = said(root, "git", "rev-parse", "HEAD")
+    programs = {name: digest(os.path.join(reference, name)) for name in ("apsrun", "aplcmp")}
+    if generator:
+        programs["generate"] = digest(generator.program)
+    return {
+        "commit": commit or "unknown: no git repository",
+        "changed since": bool(commit and said(root, "git", "status", "--porcelain")),
+        "kit": said(root, "rt", "version") or "unknown: no rt",
+        "proved": proved,
+        "sha256": programs,
+    }
+
+
+def simulator(command):
+    """The simulator's command, with the digest of each file that it names."""
+    found = {word: word for word in command[1:] if os.path.isfile(word)}
+    program = shutil.which(command[0])
+    if program:
+        found[command[0]] = program
+    return {"command": command, "sha256": {word: digest(path) for word, path in sorted(found.items())}}
+
+
+def figures(results):
+    """Counts of scripts by what became of them."""
+    count = {state: sum(result.verdict.state == state for result in results) for state in (PASSED, FAILED, NOT_JUDGED)}
+    return {"judged": count[PASSED] + count[FAILED], **count}
+
+
+def verdict_of(results):
+    count = figures(results)
+    if count[FAILED]:
+        return FAILED
+    return PASSED if count[PASSED] and not count[NOT_JUDGED] else NOT_JUDGED
+
+
+def notes(results):
+    """What does not count, and a lab may want to know."""
+    for what, met in (
+        ("ended with an exit status other than 0", lambda verdict: verdict.status > 0),
+        ("wrote to standard error", lambda verdict: verdict.errors != b""),
+    ):
+        found = [result.name for result in results if result.verdict.state == PASSED and met(result.verdict)]
+        if found:
+            yield f"the simulator {what} on {len(found)} scripts that it passed, the first of them {found[0]}"
+
+
+def settings(options):
+    """What was judged, and how: the options with their defaults."""
+    return {
+        "seeds": [f"{first}-{last}" for first, last in options.seeds],
+        "families": options.families or ["all"],
+        "files": options.scripts,
+        "cuts": options.cuts,
+        "timeout": options.timeout,
+    }
+
+
+def structure(judgement, date):
+    """The whole report, as it is written to JSON."""
+    results = judgement.results
+    return {
+        "verdict": verdict_of(results),
+        "date": date,
+        "model": judgement.model,
+        "simulator": judgement.simulator,
+        "command line": judgement.options.command_line,
+        "options": settings(judgement.options),
+        "scripts": {
+            "given": sum(not result.cut for result in results),
+            "cut": sum(result.cut for result in results),
+            **figures(results),
+            "records": judgement.coverage.records,
+            "sha256": hashlib.sha256("".join(result.sha256 for result in results).encode()).hexdigest(),
+        },
+        "stopped": judgement.stopped,
+        "notes": list(notes(results)),
+        "coverage": {
+            "never met": {part: names for part, names in judgement.coverage.never().items() if names},
+            **{part: {name: judgement.coverage.met[part][name] for name in names} for part, names in TO_MEET.items()},
+        },
+        "failures": [
+            {"script": result.name, "verdict": result.verdict.line}
+            | ({"explained": judgement.folders[result.name]} if result.name in judgement.folders else {})
+            for result in results if result.verdict.state == FAILED
+        ],
+        "not judged": [
+            {"script": result.name, "reason": result.verdict.line}
+            for result in results if result.verdict.state == NOT_JUDGED
+        ],
+        "all scripts": [
+            {"script": result.name, "form": result.source.form, "sha256": result.sha256, "records": result.records,
+             "verdict": result.verdict.line if result.verdict.state != NOT_JUDGED else NOT_JUDGED}
+            for result in results
+        ],
+    }
+
+
+def text(report, failures):
+    """The report's lines."""
+    scripts, made_by = report["scripts"], report["model"]
+    yield "Judgement of a board simulator by the Corollacap reference model"
+    yield ""
+    yield f"Verdict        {report['verdict'].upper()}"
+    yield f"Date           {report['date']}"
+    yield f"Scripts        {scripts['given']}, and {scripts['cut']} of them again with advances cut"
+    yield f"Judged         {scripts['judged']} scripts with {scripts['records']} records: {scripts['passed']} passed, " \
+          f"{scripts['failed']} failed"
+    yield f"Not judged     {scripts['not judged']} scripts"
+    if report["stopped"]:
+        yield f"Stopped        {report['stopped']}"
+    for note in report["notes"]:
+        yield f"Note           {note}"
+    yield ""
+    yield "Judged by"
+    changed = ", with changes that are not committed" if made_by["changed since"] else ""
+    yield f"  commit       {made_by['commit']}{changed}"
+    yield f"  kit          {made_by['kit']}"
+    yield "  programs     " + ("proved from these sources" if made_by["proved"] else
+                               "NOT those of this repository: --reference names others, and whether they are proved is not known")
+    yield from (f"  {name:12} sha256 {found}" for name, found in made_by["sha256"].items())
+    yield ""
+    yield "Simulator"
+    yield f"  command      {' '.join(report['simulator']['command'])}"
+    yield from (f"  sha256 {found}  {name}" for name, found in report["simulator"]["sha256"].items())
+    yield ""
+    yield "Command line"
+    yield f"  {report['command line']}"
+    for name, value in report["options"].items():
+        value = ", ".join(value) or "none" if isinstance(value, list) else {True: "yes", False: "no"}.get(value, value)
+        yield f"  {name:12} {value}"
+    yield ""
+    yield "Scripts (report.json has the digest and the verdict of each)"
+    yield f"  sha256 {scripts['sha256']}  of the list of all their digests"
+    files = [entry for entry in report["all scripts"] if not entry["script"].startswith("seed ")]
+    yield from (f"  sha256 {entry['sha256']}  {entry['script']}: {entry['verdict']}" for entry in files)
+    for title, found, key in (("Failures", report["failures"], "verdict"), ("Not judged", report["not judged"], "reason")):
+        if found:
+            yield ""
+            yield title
+            yield from (f"  {entry['script']}: {entry[key]}" + (f"  (see {entry['explained']})" if "explained" in entry else "")
+                        for entry in found)
+    for failure in failures:
+        yield ""
+        yield from explanation(failure)
+    yield ""
+    yield from coverage_text(report["coverage"])
+
+
+def coverage_text(coverage):
+    yield "Coverage of the scripts that were judged"
+    yield ""
+    yield "  never met"
+    never = coverage["never met"]
+    yield from (f"    {part}: {', '.join(names)}" for part, names in never.items())
+    if not never:
+        yield "    nothing: all that is listed below was met"
+    for part in TO_MEET:
+        yield ""
+        yield f"  {part} ({EXPLAINED[part]})"
+        yield from (f"    {name:24} {count}" for name, count in coverage[part].items())
+
+
+def save(folder, judgement, date):
+    """Writes the report."""
+    report = structure(judgement, date)
+    for failure in judgement.failures:
+        save_failure(os.path.join(folder, judgement.folders[failure.name]), failure)
+    write(folder, "report.json", json.dumps(report, indent=1) + "\n")
+    write(folder, "report.txt", "".join(f"{line}\n" for line in text(report, judgement.failures)))
+
+
+def save_failure(folder, failure):
+    os.makedirs(folder)
+    write(folder, "explanation.txt", "".join(f"{line}\n" for line in explanation(failure)))
+    write(folder, "script.txt", "".join(f"{line}\n" for line in formats.script_lines(io.BytesIO(failure.small))))
+    write(folder, "original.aps", failure.script)
+    write(folder, "script.aps", failure.small)
+    write(folder, "expected.apl", failure.expected)
+    write(folder, "got.apl", failure.got)
+    if failure.verdict.errors:
+        write(folder, "stderr.txt", failure.verdict.errors)
+
+
+def write(folder, name, data):
+    with open(os.path.join(folder, name), "wb") as file:
+        file.write(data if isinstance(data, bytes) else data.encode())
