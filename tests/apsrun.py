@@ -392,6 +392,8 @@ write_fails("a header of version 2", b"APS\x00\x02", b"refused 12\n", 1)
 write_fails("a header of version 2", b"APS\x00\x02", b"refused 12\n", 11, 1)
 
 # 6. Reads and writes that the system refuses.
+for words in (["script.aps"], ["--help"], [""], ["a", "b"]):
+    case(f"the arguments {words}", script(RESET), Failure(b"usage: apsrun < SCRIPT > LOG\n", b"", 0, 0, False), words=words)
 case("a directory as standard input", b"", Failure(b"apsrun: stdin: ", b"", 0, 0, True), stdin=FOLDER)
 FULL = Failure(b"apsrun: stdout: ", b"", 0, 0, False)
 case("a header with standard output /dev/full", script(), FULL, stdout="/dev/full")
@@ -546,9 +548,9 @@ def feed(pipe, data, chunk):
         os.close(pipe)
 
 
-def run(data, chunk=None, stdin=None, stdout=None, faults=None, room=None):
+def run(data, chunk=None, stdin=None, stdout=None, faults=None, room=None, words=()):
     """Runs the program on the script: from a file, or through a pipe by `chunk` bytes, or on what `stdin` names instead, with
-    `room` for so many bytes of its log. Its status is None where it did not end."""
+    `room` for so many bytes of its log and `words` as arguments. Its status is None where it did not end."""
     with open(place("script"), "wb") as file:
         file.write(data)
     open(place("out"), "wb").close()
@@ -565,7 +567,7 @@ def run(data, chunk=None, stdin=None, stdout=None, faults=None, room=None):
     else:
         source = os.open(stdin or place("script"), os.O_RDONLY)
     with open(stdout or place("out"), "wb") as out, open(place("err"), "wb") as err:
-        process = subprocess.Popen([PROGRAM], stdin=source, stdout=out, stderr=err, env=environment, **limits)
+        process = subprocess.Popen([PROGRAM, *words], stdin=source, stdout=out, stderr=err, env=environment, **limits)
     os.close(source)
     if chunk:
         threading.Thread(target=feed, args=(pipe, data, chunk), daemon=True).start()

@@ -1,8 +1,10 @@
 // The program: it runs the script that it reads from standard input on a machine at reset, and writes the log to standard
 // output. It only reads, calls the library `script`, and writes. Where a read fails, it says so on standard error, writes the
-// log of the pieces before, and ends: no record is made up for what was not read. Where a write fails, it says so and ends.
+// log of the pieces before, and ends: no record is made up for what was not read. Where a write fails, it says so and ends. It takes
+// no argument: where there is one, it says how it is used and reads nothing.
 ghost use Rattle.io.specs.Counts.{Counts};
 use bus::machine::Machine;
+use libc::STDERR_FILENO;
 use libc::STDIN_FILENO;
 use libc::STDOUT_FILENO;
 use script::entry;
@@ -26,6 +28,15 @@ const GATHERED: usize = 16;
 const LOG_BUFFER: usize = GATHERED * LOG_PIECE;
 
 fn main() {
+    if os::arg_count() == 1 {
+        run_input();
+    } else {
+        io::write_all(STDERR_FILENO, b"usage: apsrun < SCRIPT > LOG\n");
+    }
+}
+
+// The header, and what follows it.
+fn run_input() {
     let mut header = [0; Format::HEADER];
     let input = fill(&mut header);
     let count = input.count;
