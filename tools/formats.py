@@ -216,6 +216,11 @@ def emitted(flag, byte):
     return shown if flag == 1 or shown == "-" else f"{shown} with flag {flag}"  # by no run
 
 
+def unpack_entry(entry):
+    """The numbers of a whole log record: refusal, flag and byte emitted, levels, value, cycles, pulses of timers 1 to 4."""
+    return struct.unpack(">BBBBIQ4Q", entry)
+
+
 def entry_fields(entry):
     """The fields of a whole log record, as they are shown."""
     return {name: show(entry[begin:end]) for name, (begin, end, show) in FIELDS.items()}

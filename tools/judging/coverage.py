@@ -4,24 +4,36 @@ from collections import Counter
 import formats
 
 EDGES = ["before", "first word", "last word", "across the end", "behind"]
+# How long a wait was, by the least number of cycles that is too many.
+LENGTHS = {"0 cycles": 1, "1 cycle": 2, "below 2^16": 2**16, "below 2^32": 2**32, "2^32 and more": 2**64}
 
 # All that there is to meet, part by part.
 TO_MEET = {
     "kinds of records": [*formats.RECORDS, formats.MALFORMED, formats.CUT_SHORT],
     "registers": [f"{way} {register}" for register in formats.REGISTERS for way in ("read", "write")],
+    "offsets without a register": [f"{way} {window}" for window in formats.WINDOWS for way in ("read", "write")],
     "refusal numbers": [str(number) for number in formats.NUMBERS],
     "windows' edges": [f"{window}: {edge}" for window in formats.WINDOWS for edge in EDGES],
     "queue depths": [f"port{p}: {depth}" for p in range(formats.PORTS) for depth in range(formats.QUEUE_DEPTH + 1)],
+    "lines and bytes": [f"port{p}: {what}" for p in range(formats.PORTS) for what in ("line rises", "line falls", "emits")],
+    "waits": [f"{wait}: {length}" for wait in ("advance", "skip") for length in LENGTHS]
+    + ["skip: ends with a pulse", "skip: ends at its limit"],
+    "pulses": [f"timer{n}: {what}" for n in range(1, formats.TIMERS + 1) for what in ("one", "several")],
 }
 EXPLAINED = {
     "kinds of records": "records of each kind, refused ones too",
     "registers": "accepted accesses",
+    "offsets without a register": "accepted accesses",
     "refusal numbers": "log records with each number; 11 and 12: scripts with a bad header. 9 is for an ill-formed state, "
                        "which no script can make",
     "windows' edges": "accesses of any size that begin in the 4 bytes before the window, accepted ones of its first and last "
                       "word, those refused with 3, and those that begin in the 4 bytes behind it",
     "queue depths": "how often an accepted byte, a read or a reset brought the port's receive queue to each depth",
+    "lines and bytes": "records after which a port's line level is another than before, and records by which it emits a byte",
+    "waits": "advances and skips by the cycles that they passed, and how skips of one cycle or more ended",
+    "pulses": "advances and skips with one pulse of a timer, and with several",
 }
+# What cannot be seen in a script and its log is not counted: how a timer stood when it counted, as chained or with IP set.
 
 
 class Coverage:
@@ -46,24 +58,47 @@ class Coverage:
         if refused:
             numbers[str(refused)] += 1
             return
-        queues = Queues(self.met["queue depths"])
+        queues, before = Queues(self.met["queue depths"]), 0
         log.read(formats.HEADER_LENGTH)
         begin, length = formats.HEADER_LENGTH, formats.RECORD_LENGTH
         for place, entry in enumerate(formats.pieces(log, formats.ENTRY_LENGTH)):
             name, values = formats.decode(script[begin + length * place:begin + length * (place + 1)])
+            number, flag, _, levels, _, cycles, *pulses = formats.unpack_entry(entry)
             self.records += 1
             kinds[name] += 1
-            numbers[str(entry[0])] += 1
-            accepted = entry[0] == 0
+            numbers[str(number)] += 1
+            if levels != before:
+                self.lines(before, levels)
+                before = levels
             if name in ("read", "write"):
-                self.access(name, values, entry[0])
-            if accepted:
+                self.access(name, values, number)
+                if flag:
+                    self.met["lines and bytes"][f"{formats.device_of(values[1])}: emits"] += 1
+            elif name in ("advance", "skip"):
+                self.wait(name, values[0], cycles, pulses)
+            if number == 0:
                 queues.step(name, values)
+
+    def lines(self, before, levels):
+        for port in range(formats.PORTS):
+            if (before ^ levels) >> port & 1:
+                self.met["lines and bytes"][f"port{port}: line {'rises' if levels >> port & 1 else 'falls'}"] += 1
+
+    def wait(self, name, span, cycles, pulses):
+        waits = self.met["waits"]
+        waits[f"{name}: {next(length for length, above in LENGTHS.items() if cycles < above)}"] += 1
+        if name == "skip" and span:
+            waits["skip: ends with a pulse" if any(pulses) else "skip: ends at its limit"] += 1
+        for timer, count in enumerate(pulses, 1):
+            if count:
+                self.met["pulses"][f"timer{timer}: {'one' if count == 1 else 'several'}"] += 1
 
     def access(self, name, values, number):
         address = values[1]
         if number == 0 and address in formats.NAMES:
             self.met["registers"][f"{name} {formats.NAMES[address]}"] += 1
+        elif number == 0:
+            self.met["offsets without a register"][f"{name} {window_of(address)}"] += 1
         edges = self.met["windows' edges"]
         for edge, accepted_only in AT_EDGES.get(address, ()):
             if number == 0 or not accepted_only:

@@ -39,11 +39,17 @@ def shrunk_failure(result, judge, folder, seconds):
         return found.state == FAILED and found.alike == verdict.alike
 
     shrinker = Shrinker(script, fails, seconds)
-    small = shrinker.shrink(again.place)
+    # What comes behind the record that differs, or behind the last that was answered and the next, is left out first.
+    small = shrinker.shrink(again.place or answered(again) + 1)
     how = f"shrunk from {len(records(script))} records to {len(records(small))}, by {shrinker.tries} runs"
     if shrinker.stopped:
-        how += "; there its time was over (--shrink), so it may not be the smallest"
+        how += f"; {shrinker.stopped}, so it may not be the smallest"
     return failure(result, script, judge.judge(small, folder), small, how, folder)
+
+
+def answered(verdict):
+    """How many whole log records came."""
+    return max(0, verdict.length - formats.HEADER_LENGTH) // formats.ENTRY_LENGTH
 
 
 def failure(result, script, found, small, how, folder):
@@ -130,6 +136,8 @@ def side_by_side(failure):
     for shown in (expected, got):
         bits = formats.register_bits(register, int(shown["value"], 16))
         shown["value"] += f" ({bits})" if bits else ""
+        for field in [field for field in shown if field == "cycles" or field.startswith("pulses")]:
+            shown[field] += f" ({int(shown[field]):#x})" if int(shown[field]) >= 2**16 else ""
     differ = [field for field in expected if expected[field] != got[field]]
     width = max(len("expected"), *(len(expected[field]) for field in differ))
     other = max(len("got"), *(len(got[field]) for field in differ))
@@ -141,15 +149,14 @@ def side_by_side(failure):
 
 def meaning(failure):
     """What a verdict without a differing record says, in words."""
-    verdict = failure.verdict
-    written = max(0, verdict.length - formats.HEADER_LENGTH) // formats.ENTRY_LENGTH
-    right = formats.records_of(len(failure.small))
+    verdict, written, right = failure.verdict, answered(failure.verdict), formats.records_of(len(failure.small))
+    behind = failure.got[formats.HEADER_LENGTH + formats.ENTRY_LENGTH * right:]
+    if behind and verdict.line in ("beginning 1", "partial 2"):
+        return f"the log is too long: behind the {right} records that are right comes {shortened(behind)}"
     if verdict.line == "beginning 2":
-        return f"the log is too short: it has {written} of {right} records, and no record differs"
-    if verdict.line == "beginning 1":
-        return f"the log is too long: it has more than the {right} records that are right, and no record differs"
+        return f"the log is too short: it has {written} of {right} records, and none of them differs"
     if verdict.line == "partial 2":
-        return f"the log ends in a part of a record, behind {written} whole records; right are {right}"
+        return f"the log is too short: behind {written} of {right} records it ends in a part of a record"
     if verdict.line.startswith("refused 2"):
         what = "has another version than 1" if verdict.line.endswith("12") else "has another mark, or fewer than 5 bytes"
         return f"what was written is no log: it {what}. It begins with {shortened(failure.got)}"
@@ -159,4 +166,4 @@ def meaning(failure):
 def shortened(data):
     if not data:
         return "nothing"
-    return f"{data[:48]!r}" + (f" .. ({len(data)} bytes)" if len(data) > 48 else "")
+    return f"{data[:24]!r}" + (f" .. ({len(data)} bytes)" if len(data) > 24 else "")

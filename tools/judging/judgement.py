@@ -44,7 +44,7 @@ class Result(NamedTuple):
 class Judgement:
     def __init__(self, root, options):
         self.root, self.options = root, options
-        self.generator = scripts.Generator(root) if options.seeds else None
+        self.generator = scripts.Generator(root, options.most_cycles) if options.seeds else None
         self.reference = os.path.realpath(options.reference or os.path.join(root, "target/bin"))
         programs = (os.path.join(self.reference, name) for name in ("apsrun", "aplcmp"))
         self.judge = Judge(*programs, options.simulator, options.timeout)
@@ -73,7 +73,7 @@ class Judgement:
             if unknown:
                 raise NotJudged(f"there is no family {', '.join(unknown)}; --families lists them")
         self.model = report.model(self.root, self.reference, not self.options.reference, self.generator)
-        self.simulator = report.simulator(self.options.simulator)
+        self.simulator = report.simulator(self.options.simulator, self.options.file)
 
     def sources(self):
         for first, last in self.options.seeds:
@@ -180,8 +180,12 @@ class Judgement:
             here = os.path.join(folder, f"failure-{number}")
             os.mkdir(here)
             work.append(workers.submit(shrunk_failure, result, self.judge, here, self.options.shrink))
-        self.failures = [each.result() for each in work]
-        self.folders = {result.name: f"failures/{number}" for number, result in enumerate(chosen, 1)}
+        # The shortest first; of those that came to the same script, one.
+        found = {}
+        for each in work:
+            found.setdefault(each.result().small, each.result())
+        self.failures = sorted(found.values(), key=lambda failure: len(failure.small))
+        self.folders = {failure.name: f"failures/{number}" for number, failure in enumerate(self.failures, 1)}
         self.progress(end=True)
 
 

@@ -12,6 +12,15 @@ from judging.explain import explanation
 from judging.verdicts import FAILED, NOT_JUDGED, PASSED
 
 
+MEANING = {
+    PASSED: "The simulator's log of each of these scripts is the model's to the last byte. Of other scripts this says nothing.",
+    FAILED: "On some script the simulator's log is not the model's, or the simulator could not be started, ended by a signal "
+            "or did not end in its time.",
+    NOT_JUDGED: "On some script the model gave no sound log, or there was none to judge by. Of the simulator this says nothing.",
+}
+LISTED = 50  # failures and scripts not judged that the text names; the JSON has all
+
+
 def digest(path):
     """A file's SHA-256."""
     found = hashlib.sha256()
@@ -45,13 +54,21 @@ def model(root, reference, proved, generator):
     }
 
 
-def simulator(command):
-    """The simulator's command, with the digest of each file that it names."""
+def simulator(command, more):
+    """The simulator's command, with the digest of each file that it names and of those that are named besides."""
     found = {word: word for word in command[1:] if os.path.isfile(word)}
     program = shutil.which(command[0])
     if program:
         found[command[0]] = program
+    for path in more:
+        found |= {path: path} if os.path.isfile(path) else {file: file for file in files_in(path)}
     return {"command": command, "sha256": {word: digest(path) for word, path in sorted(found.items())}}
+
+
+def files_in(folder):
+    for here, folders, names in os.walk(folder):
+        folders[:] = sorted(name for name in folders if name != "__pycache__")
+        yield from (os.path.join(here, name) for name in names)
 
 
 def figures(results):
@@ -85,6 +102,7 @@ def settings(options):
         "families": options.families or ["all"],
         "files": options.scripts,
         "cuts": options.cuts,
+        "most cycles": options.most_cycles if options.most_cycles is not None else "any",
         "timeout": options.timeout,
     }
 
@@ -93,7 +111,9 @@ def structure(judgement, date):
     """The whole report, as it is written to JSON."""
     results = judgement.results
     return {
+        "format": 1,
         "verdict": verdict_of(results),
+        "meaning": MEANING[verdict_of(results)],
         "date": date,
         "model": judgement.model,
         "simulator": judgement.simulator,
@@ -135,6 +155,7 @@ def text(report, failures):
     yield "Judgement of a board simulator by the Corollacap reference model"
     yield ""
     yield f"Verdict        {report['verdict'].upper()}"
+    yield f"Meaning        {report['meaning']}"
     yield f"Date           {report['date']}"
     yield f"Scripts        {scripts['given']}, and {scripts['cut']} of them again with advances cut"
     yield f"Judged         {scripts['judged']} scripts with {scripts['records']} records: {scripts['passed']} passed, " \
@@ -156,6 +177,7 @@ def text(report, failures):
     yield "Simulator"
     yield f"  command      {' '.join(report['simulator']['command'])}"
     yield from (f"  sha256 {found}  {name}" for name, found in report["simulator"]["sha256"].items())
+    yield "  Other files that these load are not covered; --file names them."
     yield ""
     yield "Command line"
     yield f"  {report['command line']}"
@@ -167,15 +189,17 @@ def text(report, failures):
     yield f"  sha256 {scripts['sha256']}  of the list of all their digests"
     files = [entry for entry in report["all scripts"] if not entry["script"].startswith("seed ")]
     yield from (f"  sha256 {entry['sha256']}  {entry['script']}: {entry['verdict']}" for entry in files)
+    for failure in failures:
+        yield ""
+        yield from explanation(failure)
     for title, found, key in (("Failures", report["failures"], "verdict"), ("Not judged", report["not judged"], "reason")):
         if found:
             yield ""
             yield title
             yield from (f"  {entry['script']}: {entry[key]}" + (f"  (see {entry['explained']})" if "explained" in entry else "")
-                        for entry in found)
-    for failure in failures:
-        yield ""
-        yield from explanation(failure)
+                        for entry in found[:LISTED])
+            if len(found) > LISTED:
+                yield f"  and {len(found) - LISTED} more, in report.json"
     yield ""
     yield from coverage_text(report["coverage"])
 

@@ -22,8 +22,8 @@ class Source(NamedTuple):
 class Generator:
     """The generator of tests/model, which makes the script of a seed."""
 
-    def __init__(self, root):
-        self.root = root
+    def __init__(self, root, most_cycles=None):
+        self.root, self.most_cycles = root, most_cycles
         self.program = os.path.join(root, "target/model/release/generate")
 
     def build(self):
@@ -56,7 +56,11 @@ class Generator:
             for line in self.asked("--list", str(begin), str(min(last, begin + LISTED - 1))).decode().splitlines():
                 seed, family = line.split()
                 if not families or family in families:
-                    yield Source(f"seed {seed}", family, lambda seed=seed: self.asked(seed))
+                    yield Source(f"seed {seed}", family, lambda seed=seed: self.script(seed))
+
+    def script(self, seed):
+        script = self.asked(seed)
+        return script if self.most_cycles is None else shortened(script, self.most_cycles)
 
 
 def files(paths):
@@ -100,6 +104,20 @@ def records(script):
     """A script's records, the last of them perhaps cut short."""
     length = formats.RECORD_LENGTH
     return [script[at:at + length] for at in range(formats.HEADER_LENGTH, len(script), length)]
+
+
+def shortened(script, most):
+    """The script, with shorter advances and skips if they ask for more cycles in all."""
+    if formats.script_refusal(script):
+        return script
+    parts = records(script)
+    waits = {place: formats.decode(record) for place, record in enumerate(parts)}
+    waits = {place: (name, *values) for place, (name, values) in waits.items() if name in ("advance", "skip")}
+    if sum(span for _, span in waits.values()) > most:
+        share = most // len(waits)
+        for place, (name, span) in waits.items():
+            parts[place] = formats.encode(name, [span % (share + 1)])
+    return script[:formats.HEADER_LENGTH] + b"".join(parts)
 
 
 class Draw:

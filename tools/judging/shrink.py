@@ -7,8 +7,8 @@ from judging.scripts import records
 TRIES = 3000  # at most, so that a simulator that fails by chance does not keep the search going
 
 
-class OutOfTime(Exception):
-    pass
+class Stopped(Exception):
+    """Why no more is tried."""
 
 
 class Shrinker:
@@ -18,7 +18,7 @@ class Shrinker:
         self.header, self.records = script[:formats.HEADER_LENGTH], records(script)
         self.fails, self.seconds = fails, seconds
         self.deadline = time.monotonic() + seconds
-        self.tries, self.stopped = 0, False
+        self.tries, self.stopped = 0, None
 
     @property
     def script(self):
@@ -34,15 +34,17 @@ class Shrinker:
                 changed = self.remove()
                 changed = self.rename() or changed
                 changed = self.simplify() or changed
-        except OutOfTime:
-            self.stopped = True
+        except Stopped as reason:
+            self.stopped = str(reason)
         return self.script
 
     def attempt(self, smaller):
         if smaller == self.records:
             return False
-        if self.tries == TRIES or time.monotonic() > self.deadline:
-            raise OutOfTime
+        if self.tries == TRIES:
+            raise Stopped(f"after {TRIES} runs it was given up")
+        if time.monotonic() > self.deadline:
+            raise Stopped(f"after {self.seconds:g} s its time was over (--shrink)")
         self.tries += 1
         if not self.fails(self.header + b"".join(smaller)):
             return False
