@@ -251,4 +251,4 @@ def register_bits(name, value):
     bits = REGISTER_BITS.get(name.partition(".")[2])
     if bits is None:
         return ""
-    return " ".join(label for bit, label in bits.items() if value >> bit & 1) or "no bit"
+    return " ".join(label for bit, label in bits.items() if value >> bit & 1) or "no named bit"

@@ -1,2 +1,3 @@
-"""The parts of tools/judge: scripts (where they come from, and cuts), runs (programs that are run, and how they end), verdicts
-(one script judged), shrink, coverage and report."""
+"""The parts of tools/judge: command (the options, and what is said), judgement (a whole one), scripts (where they come from, and
+cuts), runs (programs that are run, and how they end), verdicts (one script judged), shrink and explain (a failure), coverage, and
+report."""

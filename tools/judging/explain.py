@@ -26,25 +26,27 @@ class Failure(NamedTuple):
 
 def shrunk_failure(result, judge, folder, seconds):
     """Shrinks a script that failed."""
-    script, verdict = result.script(), result.verdict
+    script, verdict = result.script, result.verdict
     again = judge.judge(script, folder)
-    if again.state != FAILED or again.alike != verdict.alike:
-        how = f"not shrunk, since on the same script again the simulator came to another result: {again.line}"
-        return failure(result, script, again, script, how, folder)
+    if not alike(again, verdict):
+        how = f"not shrunk: run again on the same script, the simulator came to another result ({again.line})"
+        return failure(result, again, script, how, folder)
     if not seconds or verdict.alike == ("start",):
-        return failure(result, script, again, script, "not shrunk", folder)
-
-    def fails(candidate):
-        found = judge.judge(candidate, folder)
-        return found.state == FAILED and found.alike == verdict.alike
-
-    shrinker = Shrinker(script, fails, seconds)
+        return failure(result, again, script, "not shrunk", folder)
+    shrinker = Shrinker(script, lambda candidate: alike(judge.judge(candidate, folder), verdict), seconds)
     # What comes behind the record that differs, or behind the last that was answered and the next, is left out first.
     small = shrinker.shrink(again.place or answered(again) + 1)
+    last = judge.judge(small, folder)
     how = f"shrunk from {len(records(script))} records to {len(records(small))}, by {shrinker.tries} runs"
     if shrinker.stopped:
         how += f"; {shrinker.stopped}, so it may not be the smallest"
-    return failure(result, script, judge.judge(small, folder), small, how, folder)
+    if not alike(last, verdict):
+        how += f"; run once more, the simulator came to another result ({last.line})"
+    return failure(result, last, small, how, folder)
+
+
+def alike(found, verdict):
+    return found.state == FAILED and found.alike == verdict.alike
 
 
 def answered(verdict):
@@ -52,10 +54,10 @@ def answered(verdict):
     return max(0, verdict.length - formats.HEADER_LENGTH) // formats.ENTRY_LENGTH
 
 
-def failure(result, script, found, small, how, folder):
+def failure(result, found, small, how, folder):
     logs = [os.path.join(folder, name) for name in ("expected.apl", "got.apl")]
     expected, got = (contents(log) if os.path.exists(log) else b"" for log in logs)
-    return Failure(result.name, result.source.form, result.verdict.line, script, found, small, how, expected, got)
+    return Failure(result.name, result.source.form, result.verdict.line, result.script, found, small, how, expected, got)
 
 
 def signature(script, verdict):
@@ -78,6 +80,9 @@ def explanation(failure):
     verdict = failure.verdict
     yield f"{failure.name} ({failure.form}): {failure.line}"
     if verdict.alike == ("start",):
+        return
+    if verdict.state != FAILED:  # it fails now and then
+        yield f"  {failure.shrunk}"
         return
     yield f"  {failure.shrunk}:"
     yield ""

@@ -11,13 +11,13 @@ import time
 from concurrent.futures import ThreadPoolExecutor
 from typing import NamedTuple
 
-import formats
 from judging import report, runs, scripts
 from judging.coverage import Coverage
 from judging.explain import shrunk_failure, signature
 from judging.runs import NotJudged
 from judging.verdicts import FAILED, NOT_JUDGED, Judge, Verdict
 
+PROGRAMS = ("apsrun", "aplcmp")
 # So many scripts on which the simulator exceeds its time, or that cannot be judged, and the others are not tried.
 MOST_OVER_TIME = MOST_NOT_JUDGED = 10
 
@@ -31,25 +31,19 @@ class Result(NamedTuple):
     records: int
     verdict: Verdict
     signature: tuple = ()
+    script: bytes = b""  # of a failure that is to be explained
 
     @property
     def name(self):
         return f"{self.source.name}, cut" if self.cut else self.source.name
-
-    def script(self):
-        script = self.source.load()
-        return scripts.cut(script) if self.cut else script
 
 
 class Judgement:
     def __init__(self, root, options):
         self.root, self.options = root, options
         self.generator = scripts.Generator(root, options.most_cycles) if options.seeds else None
-        self.reference = os.path.realpath(options.reference or os.path.join(root, "target/bin"))
-        programs = (os.path.join(self.reference, name) for name in ("apsrun", "aplcmp"))
-        self.judge = Judge(*programs, options.simulator, options.timeout)
         self.results, self.coverage = [], Coverage()
-        self.failures, self.folders = [], {}  # those that are explained, and where the report has them
+        self.chosen, self.failures = {}, []  # failures of different kinds, and their explanations
         self.stopped = None  # why not all scripts were tried
         self.lock = threading.Lock()
         self.waiting, self.next = {}, 0
@@ -59,32 +53,38 @@ class Judgement:
     # Before the scripts.
 
     def prepare(self):
-        """Sees to it that the programs are there, and are those that are proved."""
-        with one_at_a_time(self.root):
+        """Sees to it that all is there, and that the programs are those that are proved."""
+        self.reference = os.path.realpath(self.options.reference or os.path.join(self.root, "target/bin"))
+        with one_at_a_time(self.root) if not self.options.reference or self.generator else contextlib.nullcontext():
             if not self.options.reference:
                 prove(self.root)
             if self.generator:
                 self.generator.build()
-        for program in (self.judge.apsrun, self.judge.aplcmp):
-            if not os.path.isfile(program):
-                raise NotJudged(f"there is no program {program}")
+        self.programs = {program: os.path.join(self.reference, program) for program in PROGRAMS}
+        for path in self.programs.values():
+            if not os.path.isfile(path):
+                raise NotJudged(f"there is no program {path}")
+        if self.generator:
+            self.programs["generate"] = self.generator.program
         if self.generator:
             unknown = sorted(set(self.options.families) - set(self.generator.families()))
             if unknown:
                 raise NotJudged(f"there is no family {', '.join(unknown)}; --families lists them")
-        self.model = report.model(self.root, self.reference, not self.options.reference, self.generator)
+        self.files = scripts.files(self.options.scripts)
+        self.model = report.model(self.root, not self.options.reference, self.programs)
         self.simulator = report.simulator(self.options.simulator, self.options.file)
 
     def sources(self):
         for first, last in self.options.seeds:
             yield from self.generator.sources(first, last, self.options.families)
-        yield from scripts.files(self.options.scripts)
+        yield from self.files
 
     # The scripts. They are judged in any order, and what is found is taken in theirs, so that two runs come to the same.
 
     def run(self):
         turns = enumerate(self.sources())
         with tempfile.TemporaryDirectory(prefix="judge-") as folder:
+            self.judge = Judge(self.programs["apsrun"], self.programs["aplcmp"], self.options.simulator, self.options.timeout)
             with ThreadPoolExecutor(self.options.jobs) as workers:
                 try:
                     work = [workers.submit(self.work, turns, folder, number) for number in range(self.options.jobs)]
@@ -97,6 +97,11 @@ class Judgement:
                     raise
         if not self.results:
             raise NotJudged("there is no script: no seed is of the family")
+        # The report has the digests from before, and nobody knows by which program a script was run.
+        if self.model["sha256"] != report.digests(self.programs):
+            raise NotJudged("the reference programs were changed while they were used")
+        if self.simulator != report.simulator(self.options.simulator, self.options.file):
+            raise NotJudged("the simulator's files were changed while it was judged")
 
     def work(self, turns, folder, number):
         """Judges scripts until none is left."""
@@ -124,18 +129,21 @@ class Judgement:
             yield self.judged_once(source, scripts.cut(script), True, folder)
 
     def judged_once(self, source, script, cut, folder):
-        verdict, coverage = self.judge.judge(script, folder), Coverage()
+        verdict, coverage, digest = self.judge.judge(script, folder), Coverage(), hashlib.sha256(script).hexdigest()
         if verdict.state != NOT_JUDGED:
             with open(os.path.join(folder, "expected.apl"), "rb") as log:
                 coverage.note(script, log)
-        kind = signature(script, verdict) if verdict.state == FAILED else ()
-        return Result(source, cut, hashlib.sha256(script).hexdigest(), coverage.records, verdict, kind), coverage
+        if verdict.state != FAILED:
+            return Result(source, cut, digest, coverage.records, verdict), coverage
+        return Result(source, cut, digest, coverage.records, verdict, signature(script, verdict), script), coverage
 
     def take(self):
         """Takes what has been found so far, in the scripts' order, up to where the run is given up."""
         while self.stopped is None and self.next in self.waiting:
             for result, coverage in self.waiting.pop(self.next):
-                self.results.append(result)
+                if result.verdict.state == FAILED and len(self.chosen) < self.options.explain:
+                    self.chosen.setdefault(result.signature, result)
+                self.results.append(result._replace(script=b""))
                 self.coverage.add(coverage)
                 self.give_up(result.verdict)
                 if self.stopped:
@@ -168,15 +176,10 @@ class Judgement:
 
     def explain(self, workers, folder):
         """Shrinks the first failures of different kinds."""
-        first = {}
-        for result in self.results:
-            if result.verdict.state == FAILED:
-                first.setdefault(result.signature, result)
-        chosen = list(first.values())[:self.options.explain]
-        if chosen and sys.stderr.isatty():
+        if self.chosen and sys.stderr.isatty():
             sys.stderr.write("making the failing scripts small ..\r")
         work = []
-        for number, result in enumerate(chosen, 1):
+        for number, result in enumerate(self.chosen.values()):
             here = os.path.join(folder, f"failure-{number}")
             os.mkdir(here)
             work.append(workers.submit(shrunk_failure, result, self.judge, here, self.options.shrink))
@@ -185,7 +188,6 @@ class Judgement:
         for each in work:
             found.setdefault(each.result().small, each.result())
         self.failures = sorted(found.values(), key=lambda failure: len(failure.small))
-        self.folders = {failure.name: f"failures/{number}" for number, failure in enumerate(self.failures, 1)}
         self.progress(end=True)
 
 
@@ -200,15 +202,26 @@ def one_at_a_time(root):
 
 def prove(root):
     """Has the programs proved and built. Where they are and nothing has changed since, that takes a moment."""
+    for program in PROGRAMS:
+        # rt looks at the sources and not at what it made of them: a program that is missing, or newer than the note that it is
+        # proved, is built once more.
+        made, note = os.path.join(root, "target/bin", program), os.path.join(root, "target/stamp", program)
+        if os.path.exists(note) and not (os.path.exists(made) and os.path.getmtime(made) <= os.path.getmtime(note)):
+            os.remove(note)
+    late = threading.Timer(10, print, ["tools/judge: proving the reference programs, which takes some minutes .."],
+                           {"file": sys.stderr, "flush": True})
+    late.daemon = True
     try:
-        prover = subprocess.Popen(["rt", "check", "apsrun", "aplcmp"], cwd=root, stdin=subprocess.DEVNULL,
-                                  stdout=subprocess.PIPE, stderr=subprocess.STDOUT)
+        prover = subprocess.Popen(["rt", "check", *PROGRAMS], cwd=root, stdin=subprocess.DEVNULL, stdout=subprocess.PIPE,
+                                  stderr=subprocess.STDOUT, start_new_session=True)
     except OSError as error:
         raise NotJudged(f"the reference programs cannot be proved: rt: {error.strerror}") from None
-    late = threading.Timer(10, print, ["tools/judge: proving the reference programs, which takes some minutes .."],
-                           {"file": sys.stderr})
     late.start()
-    said = prover.communicate()[0].decode("utf-8", "replace").strip().split("\n")
-    late.cancel()
+    try:
+        said = prover.communicate()[0].decode("utf-8", "replace").strip().split("\n")
+    finally:
+        late.cancel()
+        if prover.poll() is None:
+            runs.end_group(prover)
     if prover.returncode:
         raise NotJudged("the reference programs are not proved; rt check says:\n" + "\n".join(said[-10:]))

@@ -9,6 +9,7 @@ import subprocess
 import formats
 from judging.coverage import EXPLAINED, TO_MEET
 from judging.explain import explanation
+from judging.runs import NotJudged
 from judging.verdicts import FAILED, NOT_JUDGED, PASSED
 
 
@@ -24,9 +25,12 @@ LISTED = 50  # failures and scripts not judged that the text names; the JSON has
 def digest(path):
     """A file's SHA-256."""
     found = hashlib.sha256()
-    with open(path, "rb") as file:
-        while piece := file.read(1 << 20):
-            found.update(piece)
+    try:
+        with open(path, "rb") as file:
+            while piece := file.read(1 << 20):
+                found.update(piece)
+    except OSError as error:  # a program that may be run and not read
+        return f"unknown: {error.strerror}"
     return found.hexdigest()
 
 
@@ -39,18 +43,23 @@ def said(root, *command):
     return ran.stdout.decode("utf-8", "replace").strip() if ran.returncode == 0 else None
 
 
-def model(root, reference, proved, generator):
+# What of the repository a judgement depends on.
+JUDGES_BY = ("crates", "crates.txt", "tests/model", "tools")
+
+
+def digests(paths):
+    return {name: digest(path) for name, path in sorted(paths.items())}
+
+
+def model(root, proved, programs):
     """What the judgement is made by."""
     commit = said(root, "git", "rev-parse", "HEAD")
-    programs = {name: digest(os.path.join(reference, name)) for name in ("apsrun", "aplcmp")}
-    if generator:
-        programs["generate"] = digest(generator.program)
     return {
         "commit": commit or "unknown: no git repository",
-        "changed since": bool(commit and said(root, "git", "status", "--porcelain")),
+        "changed since": bool(commit and said(root, "git", "status", "--porcelain", "--", *JUDGES_BY)),
         "kit": said(root, "rt", "version") or "unknown: no rt",
         "proved": proved,
-        "sha256": programs,
+        "sha256": digests(programs),
     }
 
 
@@ -62,7 +71,7 @@ def simulator(command, more):
         found[command[0]] = program
     for path in more:
         found |= {path: path} if os.path.isfile(path) else {file: file for file in files_in(path)}
-    return {"command": command, "sha256": {word: digest(path) for word, path in sorted(found.items())}}
+    return {"command": command, "sha256": digests(found)}
 
 
 def files_in(folder):
@@ -92,7 +101,7 @@ def notes(results):
     ):
         found = [result.name for result in results if result.verdict.state == PASSED and met(result.verdict)]
         if found:
-            yield f"the simulator {what} on {len(found)} scripts that it passed, the first of them {found[0]}"
+            yield f"the simulator {what}, and passed, on {len(found)} of the scripts, the first of them {found[0]}"
 
 
 def settings(options):
@@ -132,10 +141,12 @@ def structure(judgement, date):
             "never met": {part: names for part, names in judgement.coverage.never().items() if names},
             **{part: {name: judgement.coverage.met[part][name] for name in names} for part, names in TO_MEET.items()},
         },
+        "explained": [
+            {"script": failure.name, "folder": folder(place), "verdict": failure.verdict.line, "shrunk": failure.shrunk}
+            for place, failure in enumerate(judgement.failures, 1)
+        ],
         "failures": [
-            {"script": result.name, "verdict": result.verdict.line}
-            | ({"explained": judgement.folders[result.name]} if result.name in judgement.folders else {})
-            for result in results if result.verdict.state == FAILED
+            {"script": result.name, "verdict": result.verdict.line} for result in results if result.verdict.state == FAILED
         ],
         "not judged": [
             {"script": result.name, "reason": result.verdict.line}
@@ -187,17 +198,17 @@ def text(report, failures):
     yield ""
     yield "Scripts (report.json has the digest and the verdict of each)"
     yield f"  sha256 {scripts['sha256']}  of the list of all their digests"
-    files = [entry for entry in report["all scripts"] if not entry["script"].startswith("seed ")]
+    files = [entry for entry in report["all scripts"] if entry["form"] in ("a file", "a text file")]
     yield from (f"  sha256 {entry['sha256']}  {entry['script']}: {entry['verdict']}" for entry in files)
-    for failure in failures:
+    for place, failure in enumerate(failures, 1):
         yield ""
         yield from explanation(failure)
+        yield f"  saved in {folder(place)}"
     for title, found, key in (("Failures", report["failures"], "verdict"), ("Not judged", report["not judged"], "reason")):
         if found:
             yield ""
             yield title
-            yield from (f"  {entry['script']}: {entry[key]}" + (f"  (see {entry['explained']})" if "explained" in entry else "")
-                        for entry in found[:LISTED])
+            yield from (f"  {entry['script']}: {entry[key]}" for entry in found[:LISTED])
             if len(found) > LISTED:
                 yield f"  and {len(found) - LISTED} more, in report.json"
     yield ""
@@ -218,27 +229,43 @@ def coverage_text(coverage):
         yield from (f"    {name:24} {count}" for name, count in coverage[part].items())
 
 
-def save(folder, judgement, date):
+def folder(place):
+    """Where the report has what is explained at this place."""
+    return f"failures/{place}"
+
+
+def make_folder(path):
+    """The report's folder, in which nothing is overwritten."""
+    try:
+        os.makedirs(path, exist_ok=True)
+        if os.listdir(path):
+            raise NotJudged(f"the report's folder {path} is not empty: name a new one")
+        write(path, "report.txt", "This judgement has not come to its end.\n")
+    except OSError as error:
+        raise NotJudged(f"the report cannot be written to {path}: {error.strerror}") from None
+
+
+def save(path, judgement, date):
     """Writes the report."""
     report = structure(judgement, date)
-    for failure in judgement.failures:
-        save_failure(os.path.join(folder, judgement.folders[failure.name]), failure)
-    write(folder, "report.json", json.dumps(report, indent=1) + "\n")
-    write(folder, "report.txt", "".join(f"{line}\n" for line in text(report, judgement.failures)))
+    for place, failure in enumerate(judgement.failures, 1):
+        save_failure(os.path.join(path, folder(place)), failure)
+    write(path, "report.json", json.dumps(report, indent=1) + "\n")
+    write(path, "report.txt", "".join(f"{line}\n" for line in text(report, judgement.failures)))
 
 
-def save_failure(folder, failure):
-    os.makedirs(folder)
-    write(folder, "explanation.txt", "".join(f"{line}\n" for line in explanation(failure)))
-    write(folder, "script.txt", "".join(f"{line}\n" for line in formats.script_lines(io.BytesIO(failure.small))))
-    write(folder, "original.aps", failure.script)
-    write(folder, "script.aps", failure.small)
-    write(folder, "expected.apl", failure.expected)
-    write(folder, "got.apl", failure.got)
+def save_failure(path, failure):
+    os.makedirs(path)
+    write(path, "explanation.txt", "".join(f"{line}\n" for line in explanation(failure)))
+    write(path, "script.txt", "".join(f"{line}\n" for line in formats.script_lines(io.BytesIO(failure.small))))
+    write(path, "original.aps", failure.script)
+    write(path, "script.aps", failure.small)
+    write(path, "expected.apl", failure.expected)
+    write(path, "got.apl", failure.got)
     if failure.verdict.errors:
-        write(folder, "stderr.txt", failure.verdict.errors)
+        write(path, "stderr.txt", failure.verdict.errors)
 
 
-def write(folder, name, data):
-    with open(os.path.join(folder, name), "wb") as file:
-        file.write(data if isinstance(data, bytes) else data.encode())
+def write(path, name, data):
+    with open(os.path.join(path, name), "wb") as file:
+        file.write(data if isinstance(data, bytes) else data.encode("utf-8", "backslashreplace"))

@@ -1,6 +1,7 @@
 """Where scripts come from: the seeds of the generator, files and folders; and a script with its advances cut."""
 import hashlib
 import os
+import stat
 import subprocess
 from typing import Callable, NamedTuple
 
@@ -68,30 +69,48 @@ def files(paths):
     found = []
     for path in paths:
         if os.path.isdir(path):
-            here = []
-            for folder, folders, names in os.walk(path):
-                folders.sort()
-                here += [os.path.join(folder, name) for name in sorted(names) if name.endswith((".aps", ".txt"))]
+            here = list(in_folder(path, set()))
             if not here:
                 raise NotJudged(f"{path}: a folder with no file *.aps or *.txt")
             found += here
         else:
             found.append(path)
-    return [Source(path, "text" if path.endswith(".txt") else "bytes", lambda path=path: load(path)) for path in found]
+    return [Source(path if path.isprintable() else ascii(path), "a text file" if is_text(path) else "a file",
+                   lambda path=path: load(path)) for path in found]
+
+
+def in_folder(folder, seen):
+    seen.add(os.path.realpath(folder))
+    try:
+        names = sorted(os.listdir(folder))
+    except OSError as error:
+        raise NotJudged(f"the folder {folder} cannot be read: {error.strerror}") from None
+    for path in (os.path.join(folder, name) for name in names):
+        if os.path.isdir(path):
+            if os.path.realpath(path) not in seen:  # by links a folder may be in itself
+                yield from in_folder(path, seen)
+        elif path.lower().endswith((".aps", ".txt")):
+            yield path
+
+
+def is_text(path):
+    return path.lower().endswith(".txt")
 
 
 def load(path):
     """The bytes of a script file: of *.txt those of its text, of others as they are if the file says that it is a script."""
     try:
+        if not stat.S_ISREG(os.stat(path).st_mode):  # a pipe could be read once only, and keep us waiting
+            raise NotJudged(f"{path} is no regular file")
         with open(path, "rb") as file:
-            if path.endswith(".txt"):
+            if is_text(path):
                 return formats.assemble(file)
             data = file.read()
     except OSError as error:
         raise NotJudged(f"{path} cannot be read: {error.strerror}") from None
     except ValueError as error:
         raise NotJudged(f"{path} is no text of a script: {error}") from None
-    if not path.endswith(".aps") and not data.startswith(formats.SCRIPT_HEADER[:3]):
+    if not path.lower().endswith(".aps") and not data.startswith(formats.SCRIPT_HEADER[:3]):
         raise NotJudged(f"{path}: neither named *.aps nor *.txt, nor a file that begins with APS")
     return data
 
@@ -146,6 +165,9 @@ def cut(script):
     chosen = {place for place in advances if draw.below(4)} or {advances[draw.below(len(advances))]}
     for place in sorted(chosen):
         (span,) = formats.decode(parts[place])[1]
-        cuts = sorted([0, span, *(draw.place(span) for _ in range(1 + draw.below(3)))])
+        places = [draw.place(span) for _ in range(1 + draw.below(3))]
+        if span > 1 and not any(0 < each < span for each in places):  # only spans of 0 were cut off
+            places.append(1 + draw.below(span - 1))
+        cuts = sorted([0, span, *places])
         parts[place] = b"".join(formats.encode("advance", [end - begin]) for begin, end in zip(cuts, cuts[1:]))
     return script[:formats.HEADER_LENGTH] + b"".join(parts)

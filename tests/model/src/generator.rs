@@ -1,6 +1,7 @@
-//! Scripts determined by a seed, varied and biased to rare states. It knows nothing of the model's
+//! Scripts determined by a seed, varied and biased to rare states. The script of a seed is fixed for
+//! one state of this generator, and a later one may have another. It knows nothing of the model's
 //! behaviour: it only remembers what it wrote to the timer unit, to choose spans near the unit's
-//! periods.
+//! periods, and how many bytes wait in a `Stream`, to keep them flowing.
 
 use crate::random::Random;
 use crate::script::{Call, CALL_LENGTH, SCRIPT_HEADER};
@@ -26,9 +27,13 @@ pub enum Family {
     Bytes,
     /// Record counts around multiples of 4096 bytes.
     Long,
+    /// Serial ports in long use, at all fill levels of their queues. No time passes.
+    Stream,
+    /// Timers in long use: chains with the pulses far away, and pulses beyond 32 and 64 bits.
+    Chains,
 }
 
-pub const FAMILIES: [Family; 9] = [
+pub const FAMILIES: [Family; 11] = [
     Family::Timers,
     Family::Short,
     Family::Serial,
@@ -38,6 +43,8 @@ pub const FAMILIES: [Family; 9] = [
     Family::Headers,
     Family::Bytes,
     Family::Long,
+    Family::Stream,
+    Family::Chains,
 ];
 
 impl Family {
@@ -52,6 +59,8 @@ impl Family {
             Family::Headers => "headers",
             Family::Bytes => "bytes",
             Family::Long => "long",
+            Family::Stream => "stream",
+            Family::Chains => "chains",
         }
     }
 
@@ -73,6 +82,15 @@ impl Family {
             Family::Headers => "good and bad headers, some cut short, with a few records of mixed or none",
             Family::Bytes => "random bytes, most of them behind a good header",
             Family::Long => "mixed, with 250 to 4,101 records, and a part of one more behind most of them",
+            Family::Stream => {
+                "the serial ports in long use: hundreds of bytes through a queue between two resets; of 32 \
+                 scripts in a row one has more than 65,536 bytes (140,000 or 205,000 records), and one has \
+                 300 resets and more; no time passes"
+            }
+            Family::Chains => {
+                "timers in long use: chains whose pulses are up to 2^144 cycles away, more than 2^32 pulses \
+                 in a wait and more than 2^64 in a few, hundreds of waits"
+            }
         }
     }
 }
@@ -80,14 +98,19 @@ impl Family {
 /// The most cycles that the advances and skips of a `Short` script ask for in all.
 pub const SHORT_TOTAL: u64 = 100_000;
 
-/// The family of a seed. Any 16 seeds in a row hold every family.
-pub fn family(seed: u64) -> Family {
+/// The families of seeds in a row, over and over.
+const TURNS: [Family; 18] = {
     use Family::*;
-    const TURNS: [Family; 16] = [
+    [
         Short, Timers, Mixed, Serial, Short, Windows, Timers, Headers, //
-        Short, Damaged, Timers, Serial, Short, Bytes, Mixed, Long,
-    ];
-    TURNS[(seed % 16) as usize]
+        Short, Damaged, Timers, Serial, Short, Bytes, Mixed, Long, //
+        Stream, Chains,
+    ]
+};
+
+/// The family of a seed. Any 18 seeds in a row hold every family.
+pub fn family(seed: u64) -> Family {
+    TURNS[(seed % TURNS.len() as u64) as usize]
 }
 
 /// The script of a seed.
@@ -123,8 +146,27 @@ const BLANKS: [&[usize]; 7] = [
     &[1, 2, 3, 4, 5, 6, 7, 8, 9, 10, 11, 12, 13, 14, 15],
 ];
 
+/// Bytes that a port's queue holds.
+const QUEUE: u64 = 8;
+
+/// A port of a `Stream`.
+struct Stream {
+    port: usize,
+    /// Whether a byte is sent for each one that is read.
+    echo: bool,
+    /// CONTROL as last written, with RE set.
+    control: u32,
+    /// Numbers the bytes that are offered, accepted or not.
+    offered: u64,
+    accepted: u64,
+    /// Bytes in the queue.
+    waiting: u64,
+}
+
 struct Generator {
     random: Random,
+    /// How often all turns were taken before this seed.
+    round: u64,
     script: Vec<u8>,
     family: Family,
     /// Whether some records are pushed malformed.
@@ -142,6 +184,7 @@ impl Generator {
     fn new(seed: u64, family: Family) -> Generator {
         Generator {
             random: Random::new(seed),
+            round: seed / TURNS.len() as u64,
             script: SCRIPT_HEADER.to_vec(),
             family,
             damaging: false,
@@ -177,6 +220,17 @@ impl Generator {
                 self.script.truncate(SCRIPT_HEADER.len() + target * CALL_LENGTH);
                 return self.tail();
             }
+            // The longest ones by turns, so that a run of some thousand seeds has them for sure.
+            Family::Stream => match self.round % 64 {
+                4 | 36 => self.stream_with_resets(),
+                12 => self.stream(65_600, false),
+                44 => self.stream(65_600, true),
+                _ => {
+                    let echo = self.random.one_in(3);
+                    self.stream(120, echo);
+                }
+            },
+            Family::Chains => self.repeat(4 * count, Generator::chain_step),
         }
         self.read_everything();
         if self.random.one_in(4) {
@@ -187,9 +241,7 @@ impl Generator {
     fn repeat(&mut self, count: usize, step: fn(&mut Generator)) {
         while self.records() < count {
             if self.random.one_in(50) {
-                self.push(Call::Reset);
-                (self.scaler, self.scaler_reload) = (0xFFFF, 0xFFFF);
-                (self.counters, self.reloads) = ([0, 0, 0, 0xFFFF], [0, 0, 0, 0xFFFF]);
+                self.reset();
             }
             step(self);
         }
@@ -241,6 +293,12 @@ impl Generator {
         self.push(Call::Write { size: 4, address, value });
     }
 
+    fn reset(&mut self) {
+        self.push(Call::Reset);
+        (self.scaler, self.scaler_reload) = (0xFFFF, 0xFFFF);
+        (self.counters, self.reloads) = ([0, 0, 0, 0xFFFF], [0, 0, 0, 0xFFFF]);
+    }
+
     fn tail(&mut self) {
         let length = self.random.below(16) as usize;
         let call =
@@ -285,6 +343,12 @@ impl Generator {
             _ => {}
         }
         self.write(UNIT + timer as u32 * timer::TIMER_STRIDE + register, value);
+    }
+
+    fn set_up_timer(&mut self, timer: usize, counter: u32, reload: u32, control: u32) {
+        self.write_timer(timer, timer::RELOAD, reload);
+        self.write_timer(timer, timer::COUNTER, counter);
+        self.write_timer(timer, timer::CONTROL, control);
     }
 
     fn write_prescaler(&mut self) {
@@ -340,9 +404,7 @@ impl Generator {
             let reload =
                 if self.random.one_in(8) { self.counter_value() } else { 1 + self.random.below(5) as u32 };
             let counter = if self.random.one_in(4) { self.counter_value() } else { reload };
-            self.write_timer(timer, timer::RELOAD, reload);
-            self.write_timer(timer, timer::COUNTER, counter);
-            self.write_timer(timer, timer::CONTROL, control);
+            self.set_up_timer(timer, counter, reload, control);
         }
     }
 
@@ -360,9 +422,7 @@ impl Generator {
                 _ if timer == last => timer::EN | timer::RS | timer::IE | timer::CH,
                 _ => timer::EN | timer::RS | timer::CH,
             };
-            self.write_timer(timer, timer::RELOAD, number.wrapping_sub(few));
-            self.write_timer(timer, timer::COUNTER, number);
-            self.write_timer(timer, timer::CONTROL, control);
+            self.set_up_timer(timer, number, number.wrapping_sub(few), control);
         }
         let limit = self.random.pick(&[u64::MAX, u64::MAX, u64::MAX - 1, 1 << 63]);
         self.push(Call::Skip { limit });
@@ -484,6 +544,134 @@ impl Generator {
         }
     }
 
+    // Timers in long use.
+
+    fn chain_step(&mut self) {
+        match self.random.below(8) {
+            0..=3 => self.set_up_any_chain(),
+            4 | 5 => self.set_up_farthest_chain(),
+            6 => return self.many_pulses(),
+            _ => return self.many_waits(),
+        }
+        for _ in 0..=self.random.below(5) {
+            self.pass_far();
+            self.read_timers();
+        }
+    }
+
+    fn pass_far(&mut self) {
+        let any = self.random.next_u64() >> self.random.below(64);
+        let span = self.random.pick(&[u64::MAX, u64::MAX, 1 << 63, 1 << 32, any, any]);
+        match self.random.below(6) {
+            0 => self.pass(),
+            1 | 2 => self.push(Call::Advance { cycles: span }),
+            _ => self.push(Call::Skip { limit: span }),
+        }
+    }
+
+    fn set_prescaler(&mut self, value: u16, reload: u16) {
+        (self.scaler, self.scaler_reload) = (value.into(), reload.into());
+        self.write(UNIT + timer::SCALER_RELOAD, reload.into());
+        self.write(UNIT + timer::SCALER, value.into());
+    }
+
+    /// A chain of two to four timers with numbers from end to end. The other timers are mostly off, so
+    /// that their pulses do not come first.
+    fn set_up_any_chain(&mut self) {
+        let small = 2 + self.random.below(6) as u16;
+        let reload = self.random.pick(&[0, 1, 0xFFFF, small]);
+        let value = self.random.pick(&[reload, reload, 0, 0xFFFF, small]);
+        self.set_prescaler(value, reload);
+        let length = 2 + self.random.below(3) as usize;
+        let first = 1 + self.random.below((timer::TIMERS - length + 1) as u64) as usize;
+        let last = first + length - 1;
+        for timer in 1..=timer::TIMERS {
+            if !(first..=last).contains(&timer) {
+                if !self.random.one_in(8) {
+                    self.write_timer(timer, timer::CONTROL, 0);
+                }
+                continue;
+            }
+            let mut control = timer::EN | timer::RS;
+            if timer > first || timer == 1 && self.random.one_in(4) {
+                control |= timer::CH;
+            }
+            if timer == last || self.random.one_in(4) {
+                control |= timer::IE;
+            }
+            if self.random.one_in(12) {
+                control &= !timer::RS;
+            }
+            let reload = self.far_number();
+            let counter = if self.random.one_in(3) { self.far_number() } else { reload };
+            self.set_up_timer(timer, counter, reload, control);
+        }
+    }
+
+    fn far_number(&mut self) -> u32 {
+        let any = self.random.word() >> self.random.below(32);
+        self.random.pick(&[0, 0, 1, 2, 0x1_0000, 1 << 31, u32::MAX, any, any])
+    }
+
+    /// A chain of four timers with the only pulse about as far away as it can be, and a skip to it.
+    /// Most numbers are powers of two: what is left of a product that wraps, at 2^64 or 2^128, is then
+    /// so small that it lies within the limit. With 0 everywhere, tick 0 is left, which is no negative
+    /// cycle where the prescaler's value is not below its reload.
+    fn set_up_farthest_chain(&mut self) {
+        let small = self.random.below(6) as u16;
+        let reload = self.random.pick(&[0, 0xFFFF, 0xFFFF, 0xFF, 1]);
+        let value = self.random.pick(&[reload, 0xFFFF, 0xFFFF, small]);
+        self.set_prescaler(value, reload);
+        for timer in 1..=timer::TIMERS {
+            let (numbers, mut control) = match timer {
+                1 => (&[0, 0, 0x1_0000, 1 << 31], timer::EN | timer::RS),
+                _ => (&[0, 0, 0, 1 << 31], timer::EN | timer::RS | timer::CH),
+            };
+            if timer == timer::TIMERS {
+                control |= timer::IE;
+            }
+            let reload = self.random.pick(numbers);
+            // Where 0 stands for 2^32 there is no more.
+            let more = if timer == 1 && reload != 0 { self.random.below(4) as u32 } else { 0 };
+            self.set_up_timer(timer, reload + more, reload, control);
+        }
+        let limit = self.random.pick(&[u64::MAX, u64::MAX, u64::MAX - 1, 1 << 63]);
+        self.push(Call::Skip { limit });
+        self.read_timers();
+    }
+
+    /// Timer 1 pulses with every tick, the others with every first, second or third of their counts.
+    /// The pulses of each wait or of all five do not fit into 32 bits, or those of all five into 64.
+    fn many_pulses(&mut self) {
+        let reload = self.random.pick(&[1, 1, 1, 2, 3]);
+        self.set_prescaler(reload, reload);
+        for timer in 1..=timer::TIMERS {
+            let reload = if timer == 1 { 1 } else { 1 + self.random.below(3) as u32 };
+            let chained = self.random.pick(&[0, timer::CH]);
+            self.set_up_timer(timer, reload, reload, timer::EN | timer::RS | timer::IE | chained);
+        }
+        let few = self.random.below(1000);
+        let more = 1 << (35 + self.random.below(29));
+        let cycles = self.random.pick(&[u64::MAX - few, u64::MAX - few, (1 << 32) + few, more + few]);
+        for _ in 0..5 {
+            self.push(Call::Advance { cycles });
+            self.read_timers();
+        }
+    }
+
+    /// More waits than 8 bits count, most of the skips with a pulse.
+    fn many_waits(&mut self) {
+        self.set_up_chain();
+        for _ in 0..260 + self.random.below(60) {
+            let call = match self.random.below(4) {
+                0 => Call::Advance { cycles: self.random.below(100) },
+                _ => Call::Skip { limit: 1 << 40 },
+            };
+            self.push(call);
+        }
+        self.read_timers();
+    }
+
     // Serial ports.
 
     fn serial_step(&mut self) {
@@ -602,6 +790,126 @@ impl Generator {
                     self.read(PORTS[port] + uart::DATA);
                 }
                 self.read_port(PORTS[port]);
+            }
+        }
+    }
+
+    // Serial ports in long use.
+
+    /// A port that accepts at least this many bytes with no reset, now and then with another one
+    /// beside it; both are empty at the end.
+    fn stream(&mut self, least: u64, echo: bool) {
+        let bytes = least + self.random.below(280);
+        let port = self.random.below(6) as usize;
+        let mut streams = vec![self.open_stream(port, echo)];
+        // The longest scripts are long enough with one port.
+        if least < 1000 && self.random.one_in(3) {
+            let other = (port + 1 + self.random.below(5) as usize) % PORTS.len();
+            streams.push(self.open_stream(other, !echo));
+        }
+        while streams[0].accepted < bytes {
+            let index = self.random.pick(&[0, 0, streams.len() - 1]);
+            self.stream_step(&mut streams[index]);
+        }
+        for stream in streams {
+            for _ in 0..=QUEUE {
+                self.read(PORTS[stream.port] + uart::DATA);
+            }
+            self.read_port(PORTS[stream.port]);
+        }
+    }
+
+    /// More resets than 8 bits count, each of a port in use and of timers that were set up.
+    fn stream_with_resets(&mut self) {
+        for _ in 0..300 + self.random.below(100) {
+            let port = self.random.below(6) as usize;
+            let mut stream = self.open_stream(port, false);
+            self.stream_step(&mut stream);
+            self.set_up_timers();
+            self.reset();
+            self.read_port(PORTS[port]);
+            self.read_timers();
+        }
+    }
+
+    fn open_stream(&mut self, port: usize, echo: bool) -> Stream {
+        let offered = self.random.below(255);
+        let mut stream = Stream { port, echo, control: 0, offered, accepted: 0, waiting: 0 };
+        self.write_stream_control(&mut stream);
+        stream
+    }
+
+    fn write_stream_control(&mut self, stream: &mut Stream) {
+        let transmitter = if stream.echo { uart::TE } else { self.random.pick(&[0, uart::TE]) };
+        let interrupts = self.random.pick(&[0, uart::RI, uart::RI, uart::TI, uart::RI | uart::TI]);
+        stream.control = uart::RE | transmitter | interrupts;
+        self.write(PORTS[stream.port] + uart::CONTROL, stream.control);
+    }
+
+    /// Some bytes in and some out, now and then with something else between.
+    fn stream_step(&mut self, stream: &mut Stream) {
+        let base = PORTS[stream.port];
+        for _ in 0..self.stream_run(QUEUE - stream.waiting) {
+            self.offer_next(stream);
+            if stream.waiting < QUEUE {
+                stream.waiting += 1;
+                stream.accepted += 1;
+            }
+        }
+        if self.random.one_in(5) {
+            self.stream_aside(stream);
+        }
+        for _ in 0..self.stream_run(stream.waiting) {
+            self.read(base + uart::DATA);
+            stream.waiting = stream.waiting.saturating_sub(1);
+            if stream.echo {
+                let value = self.random.word();
+                self.write(base + uart::DATA, value);
+            }
+        }
+    }
+
+    /// Now and then more than a queue has room for, or than wait in it.
+    fn stream_run(&mut self, most: u64) -> u64 {
+        let run = 1 + self.random.below(9);
+        if self.random.one_in(32) {
+            run
+        } else {
+            run.min(most)
+        }
+    }
+
+    /// Bytes tell their place. None is 0, as the empty queue reads, and they come again after 255,
+    /// which is no power of two.
+    fn offer_next(&mut self, stream: &mut Stream) {
+        let byte = 1 + (stream.offered % 255) as u8;
+        stream.offered += 1;
+        self.push(Call::Offer { port: stream.port as u8, byte });
+    }
+
+    fn stream_aside(&mut self, stream: &mut Stream) {
+        let base = PORTS[stream.port];
+        let run = 1 + self.random.below(4);
+        match self.random.below(8) {
+            0..=2 => self.read(base + uart::STATUS),
+            3 => self.read(base + uart::CONTROL),
+            4 | 5 => {
+                for _ in 0..run {
+                    let value = self.random.word();
+                    self.write(base + uart::DATA, value);
+                }
+            }
+            6 => self.write_stream_control(stream),
+            _ => {
+                self.write(base + uart::CONTROL, stream.control & !uart::RE);
+                for _ in 0..run {
+                    match self.random.below(3) {
+                        0 => self.offer_next(stream),
+                        1 => self.read(base + uart::DATA),
+                        _ => self.read(base + uart::STATUS),
+                    }
+                }
+                self.write(base + uart::CONTROL, stream.control);
             }
         }
     }

@@ -3,24 +3,27 @@
 use std::io::{BufRead, BufReader};
 use std::process::{Command, Output, Stdio};
 
+use model::board::Board;
 use model::generator::{self, Family, FAMILIES, SHORT_TOTAL};
-use model::script::{Call, CALL_LENGTH, SCRIPT_HEADER};
+use model::script::{execute, Call, Entry, Mode, CALL_LENGTH, SCRIPT_HEADER};
+use model::timer::{TimerUnit, CH, EN, IE, RS};
 
-/// A seed means the same script for ever: FNV-1a of the first 256 scripts.
+/// The script of a seed is fixed for one state of the generator, which no slip is to change: FNV-1a of
+/// the first 256 scripts.
 #[test]
 fn scripts_are_fixed() {
     let bytes = (0..256).flat_map(generator::script);
     let hash = bytes.fold(0xCBF2_9CE4_8422_2325_u64, |hash, byte| {
         (hash ^ u64::from(byte)).wrapping_mul(0x0100_0000_01B3)
     });
-    assert_eq!(hash, 0x6F51_F6A1_ABF8_91E9);
+    assert_eq!(hash, 0xC2E9_E600_00AB_0E73);
 }
 
 #[test]
-fn sixteen_seeds_hold_every_family() {
-    for first in (0..40).chain(u64::MAX - 40..=u64::MAX - 15) {
+fn eighteen_seeds_hold_every_family() {
+    for first in (0..40).chain(u64::MAX - 40..=u64::MAX - 17) {
         for family in FAMILIES {
-            assert!((first..=first + 15).any(|seed| generator::family(seed) == family), "{first} {family:?}");
+            assert!((first..=first + 17).any(|seed| generator::family(seed) == family), "{first} {family:?}");
         }
     }
 }
@@ -39,17 +42,126 @@ fn spans(seed: u64) -> Vec<u64> {
 
 #[test]
 fn scripts_of_short_spans_are_short() {
-    for seed in (0..2000).filter(|&seed| generator::family(seed) == Family::Short) {
+    for seed in seeds(Family::Short, 2000) {
         assert!(spans(seed).iter().sum::<u64>() <= SHORT_TOTAL, "seed {seed}");
     }
     assert!(SHORT_TOTAL == 100_000 && Family::Short.description().contains(" 100,000 cycles "));
 }
 
 #[test]
-fn no_time_passes_in_scripts_of_windows() {
-    for seed in (0..2000).filter(|&seed| generator::family(seed) == Family::Windows) {
-        assert!(spans(seed).is_empty(), "seed {seed}");
+fn no_time_passes_in_scripts_of_windows_and_streams() {
+    for family in [Family::Windows, Family::Stream] {
+        for seed in seeds(family, 2000) {
+            assert!(spans(seed).is_empty(), "seed {seed}");
+        }
     }
+}
+
+fn seeds(family: Family, end: u64) -> impl Iterator<Item = u64> {
+    (0..end).filter(move |&seed| generator::family(seed) == family)
+}
+
+/// Does the whole records of a script, all well formed, and looks at each with its answer and at the
+/// timer unit before it.
+fn follow(seed: u64, mut look: impl FnMut(Call, Entry, &TimerUnit)) {
+    let script = generator::script(seed);
+    let mut board = Board::RESET;
+    for record in script[SCRIPT_HEADER.len()..].as_chunks().0 {
+        let before = board.timer_unit.clone();
+        let entry = execute(&mut board, record, Mode::Arithmetic);
+        look(Call::decode(record).unwrap(), entry, &before);
+    }
+}
+
+#[test]
+fn streams_are_long() {
+    // Scripts in which a port accepts more than 256 and more than 65,536 bytes with no reset; scripts
+    // that emit as many; and scripts with resets.
+    let (mut accept, mut emit, mut reset) = ([0; 2], [0; 2], 0);
+    for seed in seeds(Family::Stream, 18 * 64) {
+        let (mut accepted, mut most, mut emitted, mut resets) = ([0; 6], 0, 0, 0);
+        follow(seed, |call, entry, _| match call {
+            Call::Offer { port, .. } if entry.refusal == 0 => {
+                accepted[usize::from(port)] += 1;
+                most = most.max(accepted[usize::from(port)]);
+            }
+            Call::Reset => {
+                resets += 1;
+                (accepted, emitted) = ([0; 6], 0);
+            }
+            _ => emitted += u32::from(entry.emitted.is_some()),
+        });
+        assert!(resets == 0 || resets >= 300, "seed {seed}");
+        reset += u32::from(resets > 0);
+        for (index, bound) in [256, 65_536].into_iter().enumerate() {
+            accept[index] += u32::from(most > bound);
+            emit[index] += u32::from(emitted > bound);
+        }
+    }
+    assert!(reset == 2 && accept[0] >= 24 && accept[1] == 2 && emit[0] >= 8 && emit[1] == 1);
+}
+
+/// A queue may be a ring: each of its places is filled and emptied at each level.
+#[test]
+fn streams_go_round() {
+    const PORTS: [u32; 6] = [0x8000_0100, 0x8010_0100, 0x8010_0200, 0x8010_0300, 0x8010_0400, 0x8010_0500];
+    let mut filled = [[false; 8]; 8];
+    let mut emptied = [[false; 8]; 8];
+    for seed in seeds(Family::Stream, 100) {
+        let (mut accepted, mut taken) = ([0; 6], [0; 6]);
+        follow(seed, |call, entry, _| match call {
+            Call::Offer { port, .. } if entry.refusal == 0 => {
+                let port = usize::from(port);
+                filled[taken[port] % 8][accepted[port] - taken[port]] = true;
+                accepted[port] += 1;
+            }
+            // A byte that is read is never 0.
+            Call::Read { address, .. } if PORTS.contains(&address) && entry.value > 0 => {
+                let port = PORTS.iter().position(|&base| base == address).unwrap();
+                emptied[taken[port] % 8][accepted[port] - taken[port] - 1] = true;
+                taken[port] += 1;
+            }
+            Call::Reset => (accepted, taken) = ([0; 6], [0; 6]),
+            _ => {}
+        });
+    }
+    assert_eq!([filled, emptied], [[[true; 8]; 8]; 2]);
+}
+
+/// How far away the first pulse of four timers in a chain is, in cycles.
+fn distance(unit: &TimerUnit) -> f64 {
+    let counts = |number: u32| if number == 0 { 2.0_f64.powi(32) } else { f64::from(number) };
+    let controls = unit.timers.each_ref().map(|timer| timer.control & (EN | RS | IE | CH));
+    if controls != [EN | RS, EN | RS | CH, EN | RS | CH, EN | RS | IE | CH] {
+        return 0.0;
+    }
+    let mut nth = 1.0;
+    for timer in unit.timers.iter().rev() {
+        nth = counts(timer.counter) + (nth - 1.0) * counts(timer.reload);
+    }
+    nth * if unit.scaler_reload == 0 { 65536.0 } else { f64::from(unit.scaler_reload) + 1.0 }
+}
+
+#[test]
+fn chains_are_long() {
+    let (mut farthest, mut pulses, mut pulses_in_all, mut waits) = (0.0_f64, 0, 0, 0);
+    for seed in seeds(Family::Chains, 500) {
+        let (mut in_all, mut waited) = (0, 0);
+        follow(seed, |call, entry, unit| match call {
+            Call::Skip { .. } | Call::Advance { .. } => {
+                farthest = farthest.max(distance(unit));
+                pulses = pulses.max(entry.passed.pulses[0]);
+                in_all += u128::from(entry.passed.pulses[0]);
+                waited += 1;
+            }
+            Call::Reset => (in_all, waited) = (0, 0),
+            _ => {}
+        });
+        pulses_in_all = pulses_in_all.max(in_all);
+        waits = waits.max(waited);
+    }
+    assert_eq!(farthest, 2.0_f64.powi(144));
+    assert!(pulses > 1 << 32 && pulses_in_all > u64::MAX.into() && waits > 256);
 }
 
 fn generate(arguments: &[&str]) -> Output {

@@ -7,7 +7,7 @@ use std::process::ExitCode;
 use model::generator::{self, FAMILIES};
 
 const USAGE: &str = "\
-usage: generate SEED > SCRIPT                    the script of a seed, the same for ever
+usage: generate SEED > SCRIPT                    the script of a seed, fixed for one state of this program
        generate --batch RECORDS SEED > SCRIPT    mostly accesses with short advances
        generate --families                       the families of scripts: name, tab, description
        generate --list FIRST LAST                the family of each seed from FIRST to LAST
