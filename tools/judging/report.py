@@ -34,7 +34,7 @@ def digest(path):
     return found.hexdigest()
 
 
-def said(root, *command):
+def printed(root, *command):
     """What a command prints, or None."""
     try:
         ran = subprocess.run(command, cwd=root, stdin=subprocess.DEVNULL, capture_output=True)
@@ -53,11 +53,11 @@ def digests(paths):
 
 def model(root, proved, programs):
     """What the judgement is made by."""
-    commit = said(root, "git", "rev-parse", "HEAD")
+    commit = printed(root, "git", "rev-parse", "HEAD")
     return {
         "commit": commit or "unknown: no git repository",
-        "changed since": bool(commit and said(root, "git", "status", "--porcelain", "--", *JUDGES_BY)),
-        "kit": said(root, "rt", "version") or "unknown: no rt",
+        "changed since": bool(commit and printed(root, "git", "status", "--porcelain", "--", *JUDGES_BY)),
+        "kit": printed(root, "rt", "version") or "unknown: no rt",
         "proved": proved,
         "sha256": digests(programs),
     }

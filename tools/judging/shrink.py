@@ -70,8 +70,8 @@ class Shrinker:
         changed = False
         for device in used(self.records):
             kind, number = device[:-1], int(device[-1])
-            for lower in range(0 if kind == "port" else 1, number):
-                if self.attempt([renamed(record, device, f"{kind}{lower}") for record in self.records]):
+            for other in range(0 if kind == "port" else 1, number):
+                if self.attempt([renamed(record, device, f"{kind}{other}") for record in self.records]):
                     changed = True
                     break
         return changed
@@ -79,7 +79,7 @@ class Shrinker:
     def simplify(self):
         changed = False
         for place in range(len(self.records)):
-            name, values = formats.decode(self.records[place])
+            name, _ = formats.decode(self.records[place])
             if name in (formats.MALFORMED, formats.CUT_SHORT):
                 changed = self.blank(place) or changed
                 continue
