@@ -3,6 +3,9 @@ fields' names. tools/script says what the text looks like; docs/MANUAL.md what t
 import re
 import struct
 
+# What the board has.
+PORTS, TIMERS, QUEUE_DEPTH = 6, 4, 8
+
 # The files' first bytes: a mark of three, and a version.
 SCRIPT_HEADER, LOG_HEADER = b"APS\x00\x01", b"APL\x00\x01"
 HEADER_LENGTH = 5
@@ -30,15 +33,18 @@ KINDS = {
 # What a record can be beside one of these kinds.
 MALFORMED, CUT_SHORT = "malformed", "cut short"
 
-# A log record, and its fields in order, each named as aplcmp names it, with its bytes and how it is shown.
-ENTRY_LENGTH = 48
+# A log record: its numbers as struct reads them (refusal, flag and byte emitted, levels, value, cycles, pulses of each timer); and
+# its fields in order, each named as aplcmp names it, with its bytes and how it is shown.
+ENTRY = struct.Struct(f">BBBBIQ{TIMERS}Q")
+ENTRY_LENGTH = ENTRY.size
 FIELDS = {
     "number": (0, 1, lambda data: str(data[0])),
     "emitted": (1, 3, lambda data: emitted(*data)),
     "levels": (3, 4, lambda data: f"{data[0]:06b}"),
     "value": (4, 8, lambda data: data.hex()),
     "cycles": (8, 16, lambda data: str(int.from_bytes(data, "big"))),
-    **{f"pulses {n}": (8 + 8 * n, 16 + 8 * n, lambda data: str(int.from_bytes(data, "big"))) for n in range(1, 5)},
+    **{f"pulses {n}": (8 + 8 * n, 16 + 8 * n, lambda data: str(int.from_bytes(data, "big")))
+       for n in range(1, TIMERS + 1)},
 }
 
 # The refusal numbers that a script can show, in a log or in the line in its place. No script makes a machine ill formed, so 9
@@ -47,7 +53,6 @@ NUMBERS = [0, 1, 2, 3, 4, 5, 6, 7, 8, 10, BAD_MARK, BAD_VERSION]
 
 # The windows, each with its base and length; and what lies in them: each device, where it begins, how far it reaches, and its
 # registers from there on.
-PORTS, TIMERS, QUEUE_DEPTH = 6, 4, 8
 WINDOWS = {f"port{p}": (0x80100000 + 0x100 * p if p else 0x80000100, 0x100) for p in range(PORTS)}
 WINDOWS["unit"] = (0x80000300, 0x100)
 DEVICES = {f"port{p}": (*WINDOWS[f"port{p}"], "DATA STATUS CONTROL SCALER") for p in range(PORTS)}
@@ -216,11 +221,6 @@ def emitted(flag, byte):
     return shown if flag == 1 or shown == "-" else f"{shown} with flag {flag}"  # by no run
 
 
-def unpack_entry(entry):
-    """The numbers of a whole log record: refusal, flag and byte emitted, levels, value, cycles, pulses of timers 1 to 4."""
-    return struct.unpack(">BBBBIQ4Q", entry)
-
-
 def entry_fields(entry):
     """The fields of a whole log record, as they are shown."""
     return {name: show(entry[begin:end]) for name, (begin, end, show) in FIELDS.items()}
@@ -230,7 +230,7 @@ def entry_line(entry):
     if len(entry) < ENTRY_LENGTH:
         return f"a partial record of {len(entry)} bytes: {entry.hex(' ')}"
     fields = entry_fields(entry)
-    pulses = " ".join(fields.pop(f"pulses {n}") for n in range(1, 5))
+    pulses = " ".join(fields.pop(f"pulses {n}") for n in range(1, TIMERS + 1))
     return ", ".join(f"{name} {value}" for name, value in (fields | {"pulses": pulses}).items())
 
 

@@ -4,7 +4,6 @@ import datetime
 import os
 import shlex
 import signal
-import sys
 
 from judging import report, scripts
 from judging.explain import explanation

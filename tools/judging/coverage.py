@@ -63,7 +63,7 @@ class Coverage:
         begin, length = formats.HEADER_LENGTH, formats.RECORD_LENGTH
         for place, entry in enumerate(formats.pieces(log, formats.ENTRY_LENGTH)):
             name, values = formats.decode(script[begin + length * place:begin + length * (place + 1)])
-            number, flag, _, levels, _, cycles, *pulses = formats.unpack_entry(entry)
+            number, flag, _, levels, _, cycles, *pulses = formats.ENTRY.unpack(entry)
             self.records += 1
             kinds[name] += 1
             numbers[str(number)] += 1

@@ -106,21 +106,19 @@ def explanation(failure):
 
 
 def script_lines(failure):
-    lines = []
-    if formats.script_refusal(failure.small):
-        lines.append("header " + failure.small[:formats.HEADER_LENGTH].hex(" "))
+    """The script, up to the record that differs, which is marked."""
     parts = records(failure.small)
     end = failure.verdict.place or len(parts)
     begin = max(0, end - SHOWN)
+    if formats.script_refusal(failure.small):
+        yield f"          header {failure.small[:formats.HEADER_LENGTH].hex(' ')}"
+    elif not parts:
+        yield "          (a header, and no record)"
     if begin:
         yield f"    .. {begin} records before these"
-    for line in lines:
-        yield f"          {line}"
     for place in range(begin, end):
         mark = ">" if place + 1 == failure.verdict.place else " "
         yield f"  {mark} {place + 1:4}  {formats.record_line(parts[place])}{written_bits(parts[place])}"
-    if not lines and not parts:
-        yield "          (a header, and no record)"
 
 
 def written_bits(record):

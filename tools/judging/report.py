@@ -12,7 +12,6 @@ from judging.explain import explanation
 from judging.runs import NotJudged
 from judging.verdicts import FAILED, NOT_JUDGED, PASSED
 
-
 MEANING = {
     PASSED: "The simulator's log of each of these scripts is the model's to the last byte. Of other scripts this says nothing.",
     FAILED: "On some script the simulator's log is not the model's, or the simulator could not be started, ended by a signal "
