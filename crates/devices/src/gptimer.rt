@@ -1,7 +1,7 @@
 // The timer unit, GRLIB's GPTIMER: a prescaler and four timers, as a state by value. Its types leave no state ill formed,
-// so no call is refused. Each public call answers what `specs/Gptimer.antt` defines, whatever the unit and the arguments.
-// Time is not walked: a span is worked out by divisions (`specs/Gptimer/Direct.antt`), and a skip from the time of the
-// next pulse.
+// so no call is refused. Each public call answers what `specs/Gptimer.antt` and `specs/Gptimer/Span.antt` define, whatever
+// the unit and the arguments. Time is not walked: a span past the next tick is worked out by divisions
+// (`specs/Gptimer/Direct.antt`), and a skip from the time of the next pulse.
 ghost use mathlib.Core.Path.{_≡_};
 ghost use mathlib.Core.Bool.{cond, false};
 ghost use Prim.Native.Nat.{_<_, _≤_, min};
@@ -49,11 +49,30 @@ pub enum Span {
     ToPulse(u64),
 }
 
+// Whether a span ends before the prescaler's next tick.
+pub enum BeforeTick {
+    // Its cycles, and the prescaler's value after them: nothing else changes, and no timer has a pulse.
+    Yes { cycles: u64, scaler: u16 },
+    No,
+}
+
 // What some ticks do to a timer.
 struct Served {
     underflows: u64,
     pulses: u64,
     timer: Timer,
+}
+
+impl Span {
+    // The most cycles that it can have.
+    fn most(self) -> u64
+        ensures { λ r. ⌜ r ≡ spans.most self ⌝ }
+    {
+        match self {
+            Span::Cycles(cycles) => cycles,
+            Span::ToPulse(limit) => limit,
+        }
+    }
 }
 
 impl Timer {
@@ -360,20 +379,43 @@ impl Gptimer {
         self
     }
 
-    // Cycles pass. A span that ends before the prescaler's next tick takes no division and no look at the timers.
+    // Cycles pass.
     pub fn advance(mut self, cycles: u64) -> Elapsed
         ensures { λ r. ⌜ r ≡ gpt.advance cycles self ⌝ }
     {
+        let BeforeTick::Yes { cycles, scaler } = self.before_tick(Span::Cycles(cycles)) else {
+            return self.pass_tick(cycles);
+        };
+        self.scaler = scaler;
+        Elapsed {
+            cycles,
+            pulses: [0; 4],
+            unit: self,
+        }
+    }
+
+    // Whether a span ends before the prescaler's next tick, by one comparison and one subtraction: no division, no look at the
+    // timers.
+    pub fn before_tick(self, span: Span) -> BeforeTick
+        ensures { λ r. ⌜ spans.Tells span self r ⌝ }
+    {
+        let cycles = span.most();
         let scaler = self.scaler as u64;
         if cycles <= scaler {
-            self.scaler = (scaler - cycles) as u16;
-            return Elapsed {
+            return BeforeTick::Yes {
                 cycles,
-                pulses: [0; 4],
-                unit: self,
+                scaler: (scaler - cycles) as u16,
             };
         }
-        let past = cycles - (scaler + 1);
+        BeforeTick::No
+    }
+
+    // Cycles pass, and there is a tick in them.
+    fn pass_tick(mut self, cycles: u64) -> Elapsed
+        requires { ⌜ self .scaler < cycles ⌝ }
+        ensures { λ r. ⌜ r ≡ gpt.advance cycles self ⌝ }
+    {
+        let past = cycles - (self.scaler as u64 + 1);
         let restart = self.value_after_tick();
         let period = restart + 1;
         self.scaler = (restart - past % period) as u16;
@@ -384,8 +426,8 @@ impl Gptimer {
     fn tick(mut self, cycles: u64, ticks: u64) -> Elapsed
         ensures { λ r. ⌜ r ≡ direct.ticked cycles ticks self ⌝ }
     {
-        // As if a timer before it underflowed at every tick: timer 1 ignores CH.
-        let first = self.timers[0].serve(ticks, ticks);
+        // Timer 1 ignores CH.
+        let first = self.timers[0].count(ticks);
         let second = self.timers[1].serve(ticks, first.underflows);
         let third = self.timers[2].serve(ticks, second.underflows);
         let fourth = self.timers[3].serve(ticks, third.underflows);

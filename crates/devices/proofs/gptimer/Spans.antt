@@ -1,18 +1,19 @@
 -- What the code does with a span, and with the time of a pulse, is the direct form. Assumes nothing.
-use Prim.Native.Nat.{ℕ, zero, suc, _+_, _-_, _*_, _/_, _%_, _^_, _<_, _≤_, min}
+use Prim.Native.Nat.{ℕ, zero, suc, _+_, _-_, _*_, _/_, _%_, _^_, _<_, _≤_, min, compare·suc-suc}
 use mathlib.Core.Path.{_≡_, refl, sym, _∙_}
 use mathlib.Core.Bool.{true, false, cond}
+use lib.Dec.{ltb}
 use mathlib.Core.List.{List, [], _∷_}
 use native.Mathlib.Omega.{arith}
 use native.Mathlib.Nat.{suc-sub-suc, sub-zero, mod-lt, le-div-iff-mul-le, div-lt-iff-lt-mul}
 use native.Mathlib.Numerals.{add-one, one-add}
 use lib.ListN.{length}
-use borrow.Author.Tests.{lt-ltb, le-ltb}
-use Rattle.devices.specs.Cases.{chosen}
-use Rattle.devices.specs.Gptimer.{place, valueAfterTick, withScaler, withTimers, noPulses, advance}
-use Rattle.devices.specs.Gptimer.Span.{pass}
-use Rattle.devices.specs.Gptimer.Direct.{stands, endsAt, onceAt, countsLeft, servedTimer, ticked, elapsed, due}
-use Rattle.devices.specs.Gptimer.Direct.{dueTick, firstTick, tickCycle}
+use borrow.Author.Tests.{lt-ltb, le-ltb, ltb-true, ne-eqb}
+use Rattle.devices.specs.Cases.{chosen, same}
+use Rattle.devices.specs.Gptimer.{place, valueAfterTick, withScaler, withTimers, noPulses, cycle, advance}
+use Rattle.devices.specs.Gptimer.Span.{pass, most, anyTick, countedDown, Tells}
+use Rattle.devices.specs.Gptimer.Direct.{stands, endsAt, onceAt, countsLeft, countedTimer, servedTimer}
+use Rattle.devices.specs.Gptimer.Direct.{ticked, elapsed, due, dueTick, firstTick, tickCycle}
 use Rattle.devices.specs.Gptimer.Direct.Time.{served-none, servedPulses-none, advance-elapsed}
 use Rattle.devices.specs.Gptimer.Direct.Due.{four, skip-advance, due-later, first-later}
 use Rattle.devices.proofs.gptimer.Counting.{underflows-fit}
@@ -22,6 +23,8 @@ use Rattle.devices.specs.declared.gptimer.Gptimer.{Gptimer}
 use Rattle.devices.specs.declared.gptimer.Elapsed.{Elapsed}
 use Rattle.devices.specs.declared.gptimer.Span.{Span}
 use Rattle.devices.specs.declared.gptimer.Span.the-variants.{Cycles, ToPulse}
+use Rattle.devices.specs.declared.gptimer.BeforeTick.{BeforeTick}
+use Rattle.devices.specs.declared.gptimer.BeforeTick.the-variants.{Yes, No}
 
 shape : (ts : List Timer) → length ts ≡ 4 → ts ≡ place ts 0 ∷ place ts 1 ∷ place ts 2 ∷ place ts 3 ∷ []
 shape ts whole =
@@ -30,7 +33,7 @@ shape ts whole =
 -- the four timers, one after the other
 pub ticks-by :
     (cycles ticks : ℕ) (u : Gptimer) (a b c d : Served) → length (u .timers) ≡ 4 →
-    a ≡ servedTimer ticks ticks (place (u .timers) 0) →
+    a ≡ countedTimer ticks (place (u .timers) 0) →
     b ≡ servedTimer ticks (a .underflows) (place (u .timers) 1) →
     c ≡ servedTimer ticks (b .underflows) (place (u .timers) 2) →
     d ≡ servedTimer ticks (c .underflows) (place (u .timers) 3) →
@@ -41,16 +44,26 @@ pub ticks-by :
       unit = withTimers (a .timer ∷ b .timer ∷ c .timer ∷ d .timer ∷ []) u;
     })
     (ticked cycles ticks u)
-ticks-by cycles ticks u a b c d whole ea eb ec ed = rw (shape (u .timers) whole, ed, ec, eb, ea) refl
+ticks-by cycles ticks u a b c d whole ea eb ec ed =
+    rw (shape (u .timers) whole, same (place (u .timers) 0 .ch) ticks, ed, ec, eb, ea) refl
 
--- a span before the next tick, and one past it
-pub before-tick :
-    (u : Gptimer) (n : ℕ) → length (u .timers) ≡ 4 → n ≤ u .scaler →
-    _≡_ {A = Elapsed}
-    (record { cycles = n; pulses = 0 ∷ 0 ∷ 0 ∷ 0 ∷ []; unit = withScaler (u .scaler - n) u })
-    (advance n u)
+-- a tick comes in more cycles than the prescaler's value, and at none of so many
+ticks-past : (n v : ℕ) (u : Gptimer) → u .scaler ≡ v → anyTick n u ≡ ltb v n
+unfolding anyTick cycle
+ticks-past zero v u e = sym (le-ltb v 0 (omega arith))
+ticks-past (suc n) zero u e = rw e (sym (lt-ltb 0 (suc n) (omega arith)))
+ticks-past (suc n) (suc v) u e =
+    rw (e, ne-eqb (suc v) 0 (omega arith), compare·suc-suc)
+    (ticks-past n v (withScaler (suc v - 1) u) (rw (suc-sub-suc v 0, sub-zero v) refl))
+
+tick-later : (u : Gptimer) (j : ℕ) → u .scaler < 2 ^ 16 → u .scaler < tickCycle u j
+unfolding endsAt
+tick-later u j small = omega arith
+
+-- a span before the next tick
+counted-down : (u : Gptimer) (n : ℕ) → length (u .timers) ≡ 4 → n ≤ u .scaler → advance n u ≡ countedDown n (u .scaler - n) u
 unfolding elapsed stands
-before-tick u n whole l =
+counted-down u n whole l =
     rw (
       advance-elapsed n u,
       lt-ltb n (suc (u .scaler)) (omega arith),
@@ -60,6 +73,33 @@ before-tick u n whole l =
     )
     refl
 
+module _ (u : Gptimer) (span : Span) (n : ℕ) (e : n ≡ most span) where
+  pub no-tick : n ≤ u .scaler → anyTick (most span) u ≡ false
+  no-tick l = rw (← e) (ticks-past n (u .scaler) u refl ∙ le-ltb (u .scaler) n l)
+
+  pub has-tick : u .scaler < n → anyTick (most span) u ≡ true
+  has-tick l = rw (← e) (ticks-past n (u .scaler) u refl ∙ lt-ltb (u .scaler) n l)
+
+  pub ends-before :
+      length (u .timers) ≡ 4 → u .scaler < 2 ^ 16 → n ≤ u .scaler → pass span u ≡ countedDown n (u .scaler - n) u
+  ends-before whole small l = rw e (by-kind span (rw e at l))
+    where
+      by-kind : (s : Span) → most s ≤ u .scaler → pass s u ≡ countedDown (most s) (u .scaler - most s) u
+      by-kind (Cycles k) l = counted-down u k whole l
+      by-kind (ToPulse k) l =
+          let limit : min (tickCycle u (firstTick (u .timers))) k ≡ k =
+          omega (arith, tick-later u (firstTick (u .timers)) small) in
+          skip-advance k u whole (omega arith) ∙ rw limit (counted-down u k whole l)
+
+-- what is told of an advance
+module _ (u : Gptimer) (n : ℕ) (t : BeforeTick) (tells : Tells (Cycles n) u t) where
+  pub told-short : (k v : ℕ) → t ≡ Yes k v → countedDown k v u ≡ advance n u
+  told-short k v e = sym ((rw e at tells) .1)
+
+  pub told-long : t ≡ No → u .scaler < n
+  told-long e = ltb-true (u .scaler) n (sym (ticks-past n (u .scaler) u refl) ∙ rw e at tells)
+
+-- a span past it
 pub past-tick :
     (x : Elapsed) (u : Gptimer) (n r : ℕ) → r ≡ valueAfterTick (u .sreload) → u .scaler < n →
     x ≡ ticked n (1 + (n - (u .scaler + 1)) / (r + 1)) (withScaler (r - (n - (u .scaler + 1)) % (r + 1)) u) →

@@ -16,8 +16,8 @@ returns c =
     let start = first .before .before in
     let array = start .good .0 .1 .1 .1 .1 .1 .0 in
     let whole : length (start .args .t1 .timers) ≡ 4 = length-of _ (start .args .t1 .timers) 4 (array .1 .0 .1) in
-    ticks-by _ _ (start .args .t1) _ _ _ _ whole (first .serve .ensures)
-    (second .serve2 .ensures) (third .serve3 .ensures) (fourth .serve4 .ensures)
+    ticks-by _ _ (start .args .t1) _ _ _ _ whole (first .count .ensures)
+    (second .serve .ensures) (third .serve2 .ensures) (fourth .serve3 .ensures)
 
 pub tick-spec : {M : Type 1} → statement M
 tick-spec =
