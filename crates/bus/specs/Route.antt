@@ -4,29 +4,34 @@ pub mod Laws
 use Prim.Native.Nat.{ℕ}
 use mathlib.Core.Path.{_≡_}
 use mathlib.Core.Bool.{Bool, false, true}
+use mathlib.Core.List.{List}
 use lib.Dec.{ltb}
 use Rattle.devices.specs.Refusal.{notRefused}
 use Rattle.devices.specs.Apbuart as uart
 use Rattle.devices.specs.Apbuart.Call.{answerTo}
 use Rattle.devices.specs.Gptimer as gpt
 use Rattle.devices.specs.Gptimer.Span.{pass}
-use Rattle.devices.specs.declared.gptimer.Elapsed.{Elapsed}
 use Rattle.bus.specs.Board.{allThere}
 use Rattle.bus.specs.Machine.{Machine, Answer, wellFormed, resetState, portAt, withPort, withUnit}
 use Rattle.bus.specs.Machine.{answered, noPulses, refused, accepted, ofSpan}
 use Rattle.bus.specs.Call.{answer}
 use Rattle.bus.specs.declared.board.Board.{Board}
 use Rattle.bus.specs.declared.machine.Call.{Call}
+use Rattle.bus.specs.declared.reply.Reply.{Reply}
 use Rattle.bus.specs.declared.route.Route.{Route}
 use Rattle.bus.specs.declared.route.Route.the-variants.{Refused, Port, ReadUnit, WriteUnit, Pass, Reset}
 
--- What a port answered, its own refusal number too, and what a span of time answered, as the answer of a call that leaves the
--- machine `after`.
+-- The answer of a call that leaves the machine `after`: of the code's reply,
+abbrev pub replied : Reply → Machine → Answer
+replied r after = answered (r .refusal) (r .emitted) (r .byte) (r .value) (r .cycles) (r .pulses) after
+
+-- of what a port answered, with the port's own refusal number,
 abbrev pub portAnswer : uart.Answer → Machine → Answer
 portAnswer a after = answered (a .refusal) (a .emitted) (a .byte) (a .value) 0 noPulses after
 
-abbrev pub spanAnswer : Elapsed → Machine → Answer
-spanAnswer e after = answered notRefused false 0 0 (e .cycles) (e .pulses) after
+-- and of a span of time.
+abbrev pub spanAnswer : (cycles : ℕ) (pulses : List ℕ) → Machine → Answer
+spanAnswer cycles pulses after = answered notRefused false 0 0 cycles pulses after
 
 -- Port n answers its own call, and is stored.
 abbrev pub portCalled : ℕ → uart.Answer → Machine → Answer

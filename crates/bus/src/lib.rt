@@ -4,4 +4,5 @@ pub mod board;
 pub mod in_place;
 pub mod machine;
 pub mod refusal;
+pub mod reply;
 pub mod route;

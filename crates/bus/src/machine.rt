@@ -1,20 +1,16 @@
 // The machine, six serial ports and a timer unit, as a state by value, and the calls on it. Each public call answers what
 // `specs/Machine.antt` and `specs/Call.antt` define, whatever the machine and the arguments.
 ghost use mathlib.Core.Path.{_≡_};
-ghost use mathlib.Core.Bool.{true};
 ghost use Rattle.bus.specs.Machine as bus;
 ghost use Rattle.bus.specs.Board.{gr712rc};
-ghost use Rattle.bus.specs.Route as routes;
-ghost use Rattle.bus.specs.Route.Laws.{Outcome};
-ghost use Rattle.bus.specs.View.{machineOf, answerOf, Conforms};
+ghost use Rattle.bus.specs.View.{machineOf, Conforms};
 ghost use Rattle.bus.specs.declared.machine.Call.the-variants as calls;
-ghost use Rattle.devices.specs.Apbuart.View as uart;
 use crate::board::Board;
 use crate::refusal;
+use crate::reply::Reply;
 use crate::route::Route;
-use devices::apbuart;
 use devices::apbuart::Apbuart;
-use devices::gptimer::Elapsed;
+use devices::gptimer::BeforeTick;
 use devices::gptimer::Gptimer;
 
 pub struct Machine {
@@ -58,71 +54,6 @@ impl Answer {
         ensures { λ r. ⌜ r ≡ self .machine ⌝ }
     {
         self.machine
-    }
-
-    // A refusal, of the machine as it is.
-    fn refused(refusal: u8, machine: Machine) -> Self
-        ensures { λ r. ⌜ (answerOf r ≡ bus.refused refusal (machineOf machine)) × (r .machine ≡ machine) ⌝ }
-    {
-        Answer {
-            refusal,
-            emitted: false,
-            byte: 0,
-            levels: machine.levels(),
-            value: 0,
-            cycles: 0,
-            pulses: [0; 4],
-            machine,
-        }
-    }
-
-    // An access of the timer unit, with the value that it read or 0, or a reset.
-    fn accepted(value: u32, after: Machine) -> Self
-        ensures { λ r. ⌜ (answerOf r ≡ bus.accepted value (machineOf after)) × (r .machine ≡ after) ⌝ }
-    {
-        Answer {
-            refusal: refusal::NOT_REFUSED,
-            emitted: false,
-            byte: 0,
-            levels: after.levels(),
-            value,
-            cycles: 0,
-            pulses: [0; 4],
-            machine: after,
-        }
-    }
-
-    // A port's own answer, with its number.
-    fn of_port(answer: apbuart::Answer, after: Machine) -> Self
-        ensures { λ r. ⌜ (answerOf r ≡ routes.portAnswer (uart.answerOf answer) (machineOf after)) × (r .machine ≡ after) ⌝ }
-    {
-        Answer {
-            refusal: answer.refusal,
-            emitted: answer.emitted,
-            byte: answer.byte,
-            levels: after.levels(),
-            value: answer.value,
-            cycles: 0,
-            pulses: [0; 4],
-            machine: after,
-        }
-    }
-
-    // A span of time that the timer unit passed.
-    fn of_span(elapsed: Elapsed, after: Machine) -> Self
-        ensures { λ r. ⌜ (answerOf r ≡ routes.spanAnswer elapsed (machineOf after)) × (r .machine ≡ after) ⌝ }
-    {
-        let pulses = elapsed.pulses;
-        Answer {
-            refusal: refusal::NOT_REFUSED,
-            emitted: false,
-            byte: 0,
-            levels: after.levels(),
-            value: 0,
-            cycles: elapsed.cycles,
-            pulses,
-            machine: after,
-        }
     }
 }
 
@@ -218,43 +149,62 @@ impl Machine {
         self.call(Call::Malformed)
     }
 
-    // Any of these calls.
-    pub fn call(self, call: Call) -> Answer
+    // Any of these calls. What changes is stored: a device, the prescaler's value alone, or at a reset the machine. The answer is
+    // made in one place, so the machine is copied in and out and not in between. The loop of a run (crate `script`) has the same
+    // arms, on a machine of its own.
+    pub fn call(mut self, call: Call) -> Answer
         ensures { λ r. ⌜ Conforms self call r ⌝ }
     {
+        let mut reply = Reply::refused(refusal::ILL_FORMED);
         if self.well_formed() {
-            self.carry_out(Route::of(Self::BOARD, call))
-        } else {
-            Answer::refused(refusal::ILL_FORMED, self)
+            match Route::of(Self::BOARD, call) {
+                Route::Refused(number) => {
+                    reply = Reply::refused(number);
+                }
+                Route::Port { n, call } => {
+                    let answer = self.ports[n].call(call);
+                    let port = answer.port;
+                    self.ports[n] = port;
+                    reply = Reply::of_port(answer);
+                }
+                Route::ReadUnit { offset } => {
+                    let value = self.unit.read(offset);
+                    reply = Reply::accepted(value);
+                }
+                Route::WriteUnit { offset, value } => {
+                    let unit = self.unit.write(offset, value);
+                    self.unit = unit;
+                    reply = Reply::accepted(0);
+                }
+                Route::Pass(span) => match self.unit.before_tick(span) {
+                    BeforeTick::Yes { cycles, scaler } => {
+                        self.unit.scaler = scaler;
+                        reply = Reply::of_span(cycles, [0; 4]);
+                    }
+                    BeforeTick::No => {
+                        let elapsed = self.unit.pass(span);
+                        let unit = elapsed.unit;
+                        self.unit = unit;
+                        let pulses = elapsed.pulses;
+                        reply = Reply::of_span(elapsed.cycles, pulses);
+                    }
+                },
+                Route::Reset => {
+                    self = Self::reset_state();
+                    reply = Reply::accepted(0);
+                }
+            }
         }
-    }
-
-    // Does what a call leads to. The loop of a run (crate `script`) has the same arms, on a machine of its own.
-    fn carry_out(mut self, route: Route) -> Answer
-        requires { ⌜ routes.portExists (gr712rc .ports) route ≡ true ⌝ }
-        ensures { λ r. ⌜ Outcome self route (answerOf r) (r .machine) ⌝ }
-    {
-        match route {
-            Route::Refused(number) => Answer::refused(number, self),
-            Route::Port { n, call } => {
-                let answer = self.ports[n].call(call);
-                let port = answer.port;
-                self.ports[n] = port;
-                Answer::of_port(answer, self)
-            }
-            Route::ReadUnit { offset } => Answer::accepted(self.unit.read(offset), self),
-            Route::WriteUnit { offset, value } => {
-                let unit = self.unit.write(offset, value);
-                self.unit = unit;
-                Answer::accepted(0, self)
-            }
-            Route::Pass(span) => {
-                let elapsed = self.unit.pass(span);
-                let unit = elapsed.unit;
-                self.unit = unit;
-                Answer::of_span(elapsed, self)
-            }
-            Route::Reset => Answer::accepted(0, Self::reset_state()),
+        let pulses = reply.pulses;
+        Answer {
+            refusal: reply.refusal,
+            emitted: reply.emitted,
+            byte: reply.byte,
+            levels: self.levels(),
+            value: reply.value,
+            cycles: reply.cycles,
+            pulses,
+            machine: self,
         }
     }
 }

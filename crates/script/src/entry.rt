@@ -3,9 +3,7 @@ ghost use mathlib.Core.Path.{_≡_};
 ghost use mathlib.Core.Bool.{cond};
 ghost use Prim.Native.Nat.{_+_, _*_, _≤_};
 ghost use lib.ListN.{length};
-ghost use Rattle.devices.specs.Apbuart.View as uart;
-ghost use Rattle.bus.specs.Machine as bus;
-ghost use Rattle.bus.specs.Route as routes;
+ghost use Rattle.bus.specs.Route.{replied};
 ghost use Rattle.bus.specs.View.{machineOf};
 ghost use Rattle.script.specs.Log as logs;
 ghost use Rattle.script.specs.Number as big;
@@ -13,9 +11,7 @@ ghost use Rattle.script.specs.Private as private;
 ghost use Rattle.script.specs.Buffer.{wrote};
 use crate::number;
 use bus::machine::Machine;
-use bus::refusal;
-use devices::apbuart;
-use devices::gptimer::Elapsed;
+use bus::reply::Reply;
 
 // A record is six numbers of 8 bytes: the refusal number to the value read, the cycles passed, and the pulses of each timer in them.
 const LONGS: usize = 6;
@@ -90,55 +86,27 @@ pub fn layout() -> [Part; FIELDS]
     LAYOUT
 }
 
-// Each of these puts a log record into the log, from `at` on; `machine` is the machine after the call. A refusal:
-pub(crate) fn refused(log: &mut [u8], at: usize, refusal: u8, machine: Machine)
+// Puts a log record into the log, from `at` on: the reply of a call, and the line levels of the machine after it.
+pub(crate) fn put(log: &mut [u8], at: usize, reply: Reply, machine: Machine)
     requires { ⌜ at + logs.entryLength ≤ length (now log) ⌝ }
-    ensures { λ r. ⌜ now (log .exit) ≡ wrote (now (log .entry)) at (logs.entry (bus.refused refusal (machineOf machine))) ⌝ }
-{
-    let first = first_long(refusal, false, 0, machine.levels(), 0);
-    put(log, at, first, 0, [0; 4]);
-}
-
-// An access of the timer unit, with the value that it read or 0, or a reset.
-pub(crate) fn accepted(log: &mut [u8], at: usize, value: u32, machine: Machine)
-    requires { ⌜ at + logs.entryLength ≤ length (now log) ⌝ }
-    ensures { λ r. ⌜ now (log .exit) ≡ wrote (now (log .entry)) at (logs.entry (bus.accepted value (machineOf machine))) ⌝ }
-{
-    let first = first_long(refusal::NOT_REFUSED, false, 0, machine.levels(), value);
-    put(log, at, first, 0, [0; 4]);
-}
-
-// A port's own answer, with its number.
-pub(crate) fn of_port(log: &mut [u8], at: usize, answer: apbuart::Answer, machine: Machine)
-    requires { ⌜ at + logs.entryLength ≤ length (now log) ⌝ }
-    ensures { λ r. ⌜ now (log .exit) ≡ wrote (now (log .entry)) at (logs.entry (routes.portAnswer (uart.answerOf answer) (machineOf machine))) ⌝ }
+    ensures { λ r. ⌜ now (log .exit) ≡ wrote (now (log .entry)) at (logs.entry (replied reply (machineOf machine))) ⌝ }
 {
     let first = first_long(
-        answer.refusal,
-        answer.emitted,
-        answer.byte,
+        reply.refusal,
+        reply.emitted,
+        reply.byte,
         machine.levels(),
-        answer.value,
+        reply.value,
     );
-    put(log, at, first, 0, [0; 4]);
-}
-
-// A span of time that the timer unit passed.
-pub(crate) fn of_span(log: &mut [u8], at: usize, elapsed: Elapsed, machine: Machine)
-    requires { ⌜ at + logs.entryLength ≤ length (now log) ⌝ }
-    ensures { λ r. ⌜ now (log .exit) ≡ wrote (now (log .entry)) at (logs.entry (routes.spanAnswer elapsed (machineOf machine))) ⌝ }
-{
-    let first = first_long(refusal::NOT_REFUSED, false, 0, machine.levels(), 0);
-    let pulses = elapsed.pulses;
-    put(log, at, first, elapsed.cycles, pulses);
-}
-
-// The six numbers of a record.
-fn put(log: &mut [u8], at: usize, first: u64, cycles: u64, pulses: [u64; 4])
-    requires { ⌜ at + logs.entryLength ≤ length (now log) ⌝ }
-    ensures { λ r. ⌜ now (log .exit) ≡ wrote (now (log .entry)) at (private.longs (private.sixLongs first cycles pulses)) ⌝ }
-{
-    let longs = [first, cycles, pulses[0], pulses[1], pulses[2], pulses[3]];
+    let pulses = reply.pulses;
+    let longs = [
+        first,
+        reply.cycles,
+        pulses[0],
+        pulses[1],
+        pulses[2],
+        pulses[3],
+    ];
     put_longs(log, at, longs);
 }
 

@@ -18,7 +18,9 @@ use crate::record;
 use crate::record::decode;
 use bus::machine::Machine;
 use bus::refusal;
+use bus::reply::Reply;
 use bus::route::Route;
+use devices::gptimer::BeforeTick;
 
 // What a run answers.
 pub struct Ran {
@@ -82,8 +84,8 @@ fn run_records(machine: Machine, script: &[u8], log: &mut [u8], count: usize) ->
 }
 
 // Every call on a well-formed machine leaves one, so the test for 9 is once a run. The machine is a local of this loop, and
-// each route is carried out here: only the device that changed is stored, and the machine is not moved. (`Machine::carry_out`
-// has the same arms, by value.)
+// each route is carried out here: only the device that changed is stored, or the prescaler's value alone, and the machine is not
+// moved. (`Machine::call` has the same arms, by value.)
 fn play(machine: Machine, script: &[u8], log: &mut [u8], count: usize) -> Machine
     requires { ⌜ scripts.recordLength * count < length (now script) + scripts.recordLength ⌝ }
     requires { ⌜ logs.entryLength * count ≤ length (now log) ⌝ }
@@ -98,30 +100,38 @@ fn play(machine: Machine, script: &[u8], log: &mut [u8], count: usize) -> Machin
         // Here, and not behind the match: the compiler then gives each arm a jump of its own to the loop's test.
         i += 1;
         match route {
-            Route::Refused(number) => entry::refused(log, at, number, machine),
+            Route::Refused(number) => entry::put(log, at, Reply::refused(number), machine),
             Route::Port { n, call } => {
                 let answer = machine.ports[n].call(call);
                 let port = answer.port;
                 machine.ports[n] = port;
-                entry::of_port(log, at, answer, machine);
+                entry::put(log, at, Reply::of_port(answer), machine);
             }
             Route::ReadUnit { offset } => {
-                entry::accepted(log, at, machine.unit.read(offset), machine);
+                let value = machine.unit.read(offset);
+                entry::put(log, at, Reply::accepted(value), machine);
             }
             Route::WriteUnit { offset, value } => {
                 let unit = machine.unit.write(offset, value);
                 machine.unit = unit;
-                entry::accepted(log, at, 0, machine);
+                entry::put(log, at, Reply::accepted(0), machine);
             }
-            Route::Pass(span) => {
-                let elapsed = machine.unit.pass(span);
-                let unit = elapsed.unit;
-                machine.unit = unit;
-                entry::of_span(log, at, elapsed, machine);
-            }
+            Route::Pass(span) => match machine.unit.before_tick(span) {
+                BeforeTick::Yes { cycles, scaler } => {
+                    machine.unit.scaler = scaler;
+                    entry::put(log, at, Reply::of_span(cycles, [0; 4]), machine);
+                }
+                BeforeTick::No => {
+                    let elapsed = machine.unit.pass(span);
+                    let unit = elapsed.unit;
+                    machine.unit = unit;
+                    let pulses = elapsed.pulses;
+                    entry::put(log, at, Reply::of_span(elapsed.cycles, pulses), machine);
+                }
+            },
             Route::Reset => {
                 machine = Machine::reset_state();
-                entry::accepted(log, at, 0, machine);
+                entry::put(log, at, Reply::accepted(0), machine);
             }
         }
     }
@@ -142,10 +152,10 @@ fn record_at(script: &[u8], i: usize) -> &[u8]
     ensures { λ r. ⌜ now r ≡ take scripts.recordLength (drop (scripts.recordLength * i) (now (script .entry))) ⌝ }
 {
     let from = record::LENGTH * i;
-    if script.len() - from < record::LENGTH {
+    let to = from + record::LENGTH;
+    if script.len() < to {
         return &script[from..];
     }
-    let to = from + record::LENGTH;
     &script[from..to]
 }
 

@@ -18,13 +18,15 @@ use Rattle.devices.specs.Apbuart.Call.{answerTo}
 use Rattle.devices.specs.Apbuart.View as port
 use Rattle.devices.specs.Apbuart.View.{portOf}
 use Rattle.devices.specs.Gptimer as gpt
-use Rattle.devices.specs.Gptimer.Span.{pass}
+use Rattle.devices.specs.Gptimer.Span.{pass, countedDown, Tells}
 use Rattle.devices.specs.declared.apbuart.Apbuart.{Apbuart}
 use Rattle.devices.specs.declared.apbuart.Answer as apbuart
 use Rattle.devices.specs.declared.apbuart.Call.{Call}
 use Rattle.devices.specs.declared.gptimer.Gptimer.{Gptimer}
 use Rattle.devices.specs.declared.gptimer.Elapsed.{Elapsed}
 use Rattle.devices.specs.declared.gptimer.Span.{Span}
+use Rattle.devices.specs.declared.gptimer.BeforeTick.{BeforeTick}
+use Rattle.devices.specs.declared.gptimer.BeforeTick.the-variants.{Yes}
 use Rattle.bus.specs.Board.{gr712rc}
 use Rattle.bus.specs.Machine as bus
 use Rattle.bus.specs.Route.{portAnswer, spanAnswer, carriedOut, portExists, Leads}
@@ -99,9 +101,16 @@ module _ (m : Machine) (route : Route) where
 
   pub pass-outcome :
       (span : Span) (x : Elapsed) → route ≡ Pass span → x ≡ pass span (m .unit) →
-      Outcome m route (spanAnswer x (machineOf (storeUnit (x .unit) m))) (storeUnit (x .unit) m)
+      Outcome m route (spanAnswer (x .cycles) (x .pulses) (machineOf (storeUnit (x .unit) m))) (storeUnit (x .unit) m)
   unfolding carriedOut
   pass-outcome span x e f = accepted-outcome _ (storeUnit (x .unit) m) (rw (e, ← f) refl) refl refl
+
+  pub short-outcome :
+      (span : Span) (t : BeforeTick) (cycles scaler : ℕ) → route ≡ Pass span → Tells span (m .unit) t → t ≡ Yes cycles scaler →
+      (let next : Machine = storeUnit (gpt.withScaler scaler (m .unit)) m in
+      Outcome m route (spanAnswer cycles bus.noPulses (machineOf next)) next)
+  short-outcome span t cycles scaler e tells f =
+      pass-outcome span (countedDown cycles scaler (m .unit)) e (sym ((rw f at tells) .1))
 
   pub reset-outcome :
       (next : Machine) → route ≡ Reset → machineOf next ≡ bus.resetState gr712rc →

@@ -12,11 +12,12 @@ use Rattle.bus.specs.Machine as bus
 use Rattle.bus.specs.Call.{answer}
 use Rattle.bus.specs.SlowRun.{answers}
 use Rattle.bus.specs.SlowRun.Laws.{answers-append, after-append, after-keeps}
-use Rattle.bus.specs.Route.{Leads}
+use Rattle.bus.specs.Route.{replied, Leads}
 use Rattle.bus.specs.Route.Laws.{Outcome}
 use Rattle.bus.specs.View.{machineOf}
 use Rattle.bus.specs.declared.machine.Machine.{Machine}
 use Rattle.bus.specs.declared.machine.Call.{Call}
+use Rattle.bus.specs.declared.reply.Reply.{Reply}
 use Rattle.bus.specs.declared.route.Route.{Route}
 use Rattle.script.specs.Buffer.{wrote}
 use Rattle.script.specs.Script as scripts
@@ -32,7 +33,7 @@ use Rattle.script.specs.Buffer.Laws.{wrote-join, none-written}
 
 -- The record at a place: the last one, which may be cut short, and any other.
 module _ (script : List ℕ) (k n : ℕ) where
-  pub last-record : length script - k < n → take (length script - k) (drop k script) ≡ take n (drop k script)
+  pub last-record : length script < k + n → take (length script - k) (drop k script) ≡ take n (drop k script)
   last-record l =
       rw (
         take-all (length script - k) (drop k script) (rw length-drop (omega arith)),
@@ -55,12 +56,16 @@ pub none-played : (script log : List ℕ) (m : Machine) → Played (ran 0 script
 none-played script log m = record { log = none-written log 0; machine = refl }
 
 pub one-more :
-    (script log₀ : List ℕ) (m₀ : bus.Machine) (i count : ℕ) (m next : Machine) (log bytes : List ℕ) (route : Route)
-    (a : bus.Answer) → Played (ran i script log₀ m₀) m log →
+    (script log₀ : List ℕ) (m₀ : bus.Machine) (i count : ℕ) (m next : Machine) (log bytes : List ℕ) (route : Route) (reply : Reply)
+    (f : bus.Machine → bus.Answer) → Played (ran i script log₀ m₀) m log →
     Leads gr712rc (callIn (take scripts.recordLength (drop (scripts.recordLength * i) script))) route →
     bus.wellFormed m₀ ≡ true → i < count → logs.entryLength * count ≤ length log₀ →
-    bytes ≡ wrote log (logs.entryLength * i) (entry a) → Outcome m route a next → Played (ran (i + 1) script log₀ m₀) next bytes
-one-more script log₀ m₀ i count m next log bytes route a so-far led well within fits logged outcome =
+    bytes ≡ wrote log (logs.entryLength * i) (entry (replied reply (machineOf next))) → replied reply ≡ f →
+    Outcome m route (f (machineOf next)) next → Played (ran (i + 1) script log₀ m₀) next bytes
+one-more script log₀ m₀ i count m next log bytes route reply f so-far led well within fits put says outcome =
+    let a = f (machineOf next) in
+    let logged : bytes ≡ wrote log (logs.entryLength * i) (entry a) =
+    put ∙ ap (λ (g : bus.Machine → bus.Answer). wrote log (logs.entryLength * i) (entry (g (machineOf next)))) says in
     let c = callIn (take scripts.recordLength (drop (scripts.recordLength * i) script)) in
     let still : bus.wellFormed (machineOf m) ≡ true =
     ap bus.wellFormed (so-far .machine) ∙ after-keeps (calls i script) m₀ ∙ well in

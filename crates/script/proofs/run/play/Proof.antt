@@ -5,8 +5,8 @@ use Prim.Native.Nat.{_-_, _≤_}
 use mathlib.Core.Path.{_≡_, refl}
 use lib.ListN.{length}
 use Rattle.devices.specs.Lists.{length-of}
-use Rattle.bus.specs.Route.Laws.{port-there, refused-outcome, port-outcome, unit-read-outcome, unit-write-outcome}
-use Rattle.bus.specs.Route.Laws.{pass-outcome, reset-outcome}
+use Rattle.bus.specs.Route.Laws.{port-there, leads-there, named-there, refused-outcome, port-outcome, unit-read-outcome}
+use Rattle.bus.specs.Route.Laws.{unit-write-outcome, short-outcome, pass-outcome, reset-outcome}
 use Rattle.bus.specs.View.{machineOf}
 use Rattle.script.specs.Run.{ran}
 use Rattle.script.specs.Private.{Played}
@@ -28,22 +28,56 @@ play-spec =
     (tie.spec Inv-loop μ-loop (λ c. (search needs, search length-of, refl, search none-played)) (λ c. search needs)
     (λ c κs. search needs) (λ c. search needs)
     -- refused
-    (λ c. search needs) (λ c κs. search needs) (λ c. search needs)
+    (λ c. search needs) (λ c κs. search needs) (λ c κs. search needs) (λ c. search needs)
     (λ c. (search needs, search (needs, length-of), search needs, search (one-more, refused-outcome)))
     -- a port's call
     (λ c. search needs) (λ c. search port-there) (λ c. search port-there) (λ c κs. search needs)
-    (λ c. search port-there) (λ c. search port-there) (λ c κs. search needs) (λ c. search needs)
-    (λ c. (search needs, search (needs, length-of), search needs, search (one-more, port-outcome, port-there)))
+    (λ c. search port-there) (λ c. search port-there) (λ c κs. search needs) (λ c κs. search needs) (λ c. search needs)
+    (λ c. (
+      search needs,
+      search (needs, length-of),
+      search needs,
+      let replies = c .before .before .before in
+          let called = replies .before .before .before in
+          let led = called .before .before .before .before .before in
+          let loop = led .before .before in
+          let start = loop .before .before .before in
+          let port = called .before .before .before .route2 .given .1 in
+          one-more _ _ _ _ _ _ _ _ _ _ _ _ (loop .loop .inv .3) (led .route-at .ensures) (start .pre .1 .1)
+          (led .before .loop-test .taken) (start .pre .1 .0) (c .before .before .put2 .ensures) (replies .of-port .ensures)
+          (port-outcome _ _ _ _ _ _ port (named-there _ _ _ (leads-there _ _ (led .route-at .ensures)) port) (loop .loop .inv .1)
+          (called .call .ensures)),
+    ))
     -- a read of the timer unit
-    (λ c. search needs) (λ c κs. search needs) (λ c κs. search needs) (λ c. search needs)
+    (λ c. search needs) (λ c κs. search needs) (λ c κs. search needs) (λ c κs. search needs) (λ c. search needs)
     (λ c. (search needs, search (needs, length-of), search needs, search (one-more, unit-read-outcome)))
     -- a write
-    (λ c. search needs) (λ c κs. search needs) (λ c κs. search needs) (λ c. search needs)
+    (λ c. search needs) (λ c κs. search needs) (λ c κs. search needs) (λ c κs. search needs) (λ c. search needs)
     (λ c. (search needs, search (needs, length-of), search needs, search (one-more, unit-write-outcome)))
-    -- a span of time
-    (λ c. search needs) (λ c κs. search needs) (λ c κs. search needs) (λ c. search needs)
-    (λ c. (search needs, search (needs, length-of), search needs, search (one-more, pass-outcome)))
+    -- a span of time before the next tick, and one past it
+    (λ c. search needs) (λ c κs. search needs) (λ c. search needs) (λ c κs. search needs) (λ c κs. search needs) (λ c. search needs)
+    (λ c. (search needs, search (needs, length-of), search needs, search (one-more, short-outcome)))
+    (λ c. search needs) (λ c κs. search needs) (λ c κs. search needs)
+    (λ c κs.
+    -- what the loop's test showed lies far back
+    let spans = c .before .before .before .before .before .before .before .before .before .before .before in
+    search (needs, spans .before .before .before))
+    (λ c. search needs)
+    (λ c. (
+      search needs,
+      search (needs, length-of),
+      search needs,
+      let replies = c .before .before .before in
+          let passed = replies .before .before .before .before in
+          let spans = passed .before .before .before .before .before .before .before in
+          let led = spans .before .before in
+          let loop = led .before .before in
+          let start = loop .before .before .before in
+          one-more _ _ _ _ _ _ _ _ _ _ _ _ (loop .loop .inv .3) (led .route-at .ensures) (start .pre .1 .1)
+          (led .before .loop-test .taken) (start .pre .1 .0) (c .before .before .put6 .ensures) (replies .of-span2 .ensures)
+          (pass-outcome _ _ _ _ (spans .route5 .given .1) (passed .pass .ensures)),
+    ))
     -- a reset
-    (λ c. search needs) (λ c κs. search needs) (λ c κs. search needs) (λ c. search needs)
+    (λ c. search needs) (λ c κs. search needs) (λ c κs. search needs) (λ c κs. search needs) (λ c. search needs)
     (λ c. (search needs, search (needs, length-of), search needs, search (one-more, reset-outcome)))
     (λ c. search needs) (λ c. search all-played))

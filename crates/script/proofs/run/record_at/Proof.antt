@@ -8,5 +8,4 @@ pub record-at-spec : {M : Type 1} → statement M
 record-at-spec =
     tie.close
     (tie.spec (λ c. search needs) (λ c. search needs) (λ c. search needs) (λ c. search needs) (λ c. search needs)
-    (λ c. search last-record) (λ c. search needs) (λ c. search needs) (λ c. search needs) (λ c. search needs)
-    (λ c. search whole-record))
+    (λ c. search last-record) (λ c. search needs) (λ c. search needs) (λ c. search needs) (λ c. search whole-record))
