@@ -524,6 +524,36 @@ example(
     *((read(timer), entry(value=reload - 2**63 % reload)) for timer, reload in zip(TIMERS, (1, 3, 5, 7))),
 )
 
+# 8. 02's short spans: the prescaler at 5, and timer 1 pulses at its next tick. Behind each span what it left is read.
+PULSE_NEXT = (
+    (write(PRESCALER, 5), WRITTEN),
+    (write(PRESCALER_RELOAD, 3), WRITTEN),
+    (write(TIMER1, 1), WRITTEN),
+    (write(TIMER1 + 4, 2), WRITTEN),
+    (write(TIMER1 + 8, 0x0B), WRITTEN),
+)
+for kind, spans in (
+    # a span, the cycles and the pulses that it has, and the prescaler and timer 1 after it
+    (advance, [(0, 0, 0, 5, 1), (1, 1, 0, 4, 1), (5, 5, 0, 0, 1), (6, 6, 1, 3, 2), (7, 7, 1, 2, 2), (10, 10, 1, 3, 1)]),
+    (skip, [(0, 0, 0, 5, 1), (1, 1, 0, 4, 1), (5, 5, 0, 0, 1), (6, 6, 1, 3, 2), (7, 6, 1, 3, 2), (LARGEST, 6, 1, 3, 2)]),
+):
+    for span, cycles, pulses, prescaler, timer in spans:
+        example(
+            f"02: {kind.__name__} {span} with the prescaler at 5",
+            *PULSE_NEXT,
+            (kind(span), entry(cycles=cycles, pulses=(pulses, 0, 0, 0))),
+            (read(PRESCALER), entry(value=prescaler)),
+            (read(TIMER1), entry(value=timer)),
+        )
+    example(
+        f"02: {kind.__name__} 5, in two, and on to the tick",
+        *PULSE_NEXT,
+        (kind(2), entry(cycles=2)),
+        (kind(3), entry(cycles=3)),
+        (kind(0), entry()),
+        (kind(1), entry(cycles=1, pulses=(1, 0, 0, 0))),
+    )
+
 # Running them.
 
 Result = collections.namedtuple("Result", "out err status made")

@@ -30,9 +30,10 @@ fn call(machine: Machine, which: u8, turn: u64) -> Answer {
         b'i' => machine.write(scaler(turn), 4, (turn % 256) as u32),
         // A byte that is refused.
         b'j' => machine.offer(5, 0x41),
-        // An advance inside the prescaler's count, and a short skip.
+        // An advance inside the prescaler's count, a short skip, and an advance of some ticks.
         b'k' => machine.advance(1),
         b'l' => machine.skip(10),
+        b'o' => machine.advance(1_000_000),
         // A call that only hands the machine back, to be taken off the others' time.
         _ => unmoved(machine),
     }
