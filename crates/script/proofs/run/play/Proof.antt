@@ -1,13 +1,21 @@
 -- The loop over the records: the machine and the log so far are those of the records before its place; each arm carries its
 -- route out. Assumes nothing.
 use borrow.Author.Needs.{needs}
-use Prim.Native.Nat.{_-_, _≤_}
+use Prim.Native.Nat.{ℕ, _+_, _*_, _-_, _≤_}
 use mathlib.Core.Path.{_≡_, refl}
+use mathlib.Core.List.{List}
 use lib.ListN.{length}
 use Rattle.devices.specs.Lists.{length-of}
-use Rattle.bus.specs.Route.Laws.{port-there, leads-there, named-there, refused-outcome, port-outcome, unit-read-outcome}
-use Rattle.bus.specs.Route.Laws.{unit-write-outcome, short-outcome, pass-outcome, reset-outcome}
+use Rattle.bus.specs.Machine as bus
+use Rattle.bus.specs.Route.{replied}
+use Rattle.bus.specs.Route.Laws.{Outcome, port-there, leads-there, named-there, refused-outcome, port-outcome}
+use Rattle.bus.specs.Route.Laws.{unit-read-outcome, unit-write-outcome, short-outcome, pass-outcome, reset-outcome}
 use Rattle.bus.specs.View.{machineOf}
+use Rattle.bus.specs.declared.machine.Machine.{Machine}
+use Rattle.bus.specs.declared.reply.Reply.{Reply}
+use Rattle.script.specs.Buffer.{wrote}
+use Rattle.script.specs.Log as logs
+use Rattle.script.specs.Log.{entry}
 use Rattle.script.specs.Run.{ran}
 use Rattle.script.specs.Private.{Played}
 use Rattle.script.proofs.run.Playing.{none-played, one-more, all-played}
@@ -21,6 +29,20 @@ Inv-loop script log₀ count machine₀ i₀ log machine i =
 
 abbrev μ-loop : tie.MeasureT-loop
 μ-loop script log₀ count machine₀ i₀ log machine i = count - i
+
+-- One record more, from what was known when its route was: for the arms from which that lies too far back to be searched for.
+turn :
+    (c : tie.After-route-at Inv-loop μ-loop) (next : Machine) (bytes : List ℕ) (reply : Reply) (f : bus.Machine → bus.Answer) →
+    (let at = c .before .before .loop in
+    let start = c .before .before .before .before .before .args in
+    bytes ≡ wrote (at .log) (logs.entryLength * at .i) (entry (replied reply (machineOf next))) → replied reply ≡ f →
+    Outcome (at .machine) (c .route-at .result) (f (machineOf next)) next →
+    Played (ran (at .i + 1) (start .script .now) (start .log .now) (machineOf (start .machine))) next bytes)
+turn c next bytes reply f put says outcome =
+    let loop = c .before .before in
+    let start = loop .before .before .before in
+    one-more _ _ _ _ _ _ _ _ _ _ _ _ (loop .loop .inv .3) (c .route-at .ensures) (start .pre .1 .1) (c .before .loop-test .taken)
+    (start .pre .1 .0) put says outcome
 
 pub play-spec : {M : Type 1} → statement M
 play-spec =
@@ -40,13 +62,10 @@ play-spec =
       let replies = c .before .before .before in
           let called = replies .before .before .before in
           let led = called .before .before .before .before .before in
-          let loop = led .before .before in
-          let start = loop .before .before .before in
           let port = called .before .before .before .route2 .given .1 in
-          one-more _ _ _ _ _ _ _ _ _ _ _ _ (loop .loop .inv .3) (led .route-at .ensures) (start .pre .1 .1)
-          (led .before .loop-test .taken) (start .pre .1 .0) (c .before .before .put2 .ensures) (replies .of-port .ensures)
-          (port-outcome _ _ _ _ _ _ port (named-there _ _ _ (leads-there _ _ (led .route-at .ensures)) port) (loop .loop .inv .1)
-          (called .call .ensures)),
+          turn led _ _ _ _ (c .before .before .put2 .ensures) (replies .of-port .ensures)
+          (port-outcome _ _ _ _ _ _ port (named-there _ _ _ (leads-there _ _ (led .route-at .ensures)) port)
+          (led .before .before .loop .inv .1) (called .call .ensures)),
     ))
     -- a read of the timer unit
     (λ c. search needs) (λ c κs. search needs) (λ c κs. search needs) (λ c κs. search needs) (λ c. search needs)
@@ -70,11 +89,7 @@ play-spec =
       let replies = c .before .before .before in
           let passed = replies .before .before .before .before in
           let spans = passed .before .before .before .before .before .before .before in
-          let led = spans .before .before in
-          let loop = led .before .before in
-          let start = loop .before .before .before in
-          one-more _ _ _ _ _ _ _ _ _ _ _ _ (loop .loop .inv .3) (led .route-at .ensures) (start .pre .1 .1)
-          (led .before .loop-test .taken) (start .pre .1 .0) (c .before .before .put6 .ensures) (replies .of-span2 .ensures)
+          turn (spans .before .before) _ _ _ _ (c .before .before .put6 .ensures) (replies .of-span2 .ensures)
           (pass-outcome _ _ _ _ (spans .route5 .given .1) (passed .pass .ensures)),
     ))
     -- a reset

@@ -40,7 +40,7 @@ returns c =
     (⊎-elim
     (λ w. well-called tested levels (w .6) (w .7) (w .0 .taken) (w .1 .ensures) (w .5 .ensures) (search reset-outcome))
     -- 9
-    (λ w. ill-called tested levels (w .1) (w .2) (w .0 .left) (met .before .before .refused .ensures) refl)))))))
+    (λ w. ill-called tested levels (w .1) (w .2) (w .0 .left) (met .before .before .refused .ensures) refl refl)))))))
     (met .if1 .came)
 
 pub call-spec : {M : Type 1} → statement M
