@@ -93,7 +93,7 @@ def refusal(size, address):
 
 
 class Walk:
-    """A long script, and the log that 01's rules give it. Each step adds some records, each with its entry, and keeps what
+    """A long script, and the log that 01's and 02's rules give it. Each step adds some records, each with its entry, and keeps what
     later ones need to know of the machine: all of the ports, the prescaler's value and the timers' reloads. Between two
     steps no timer is enabled, and only the step `time` has ticks."""
 
@@ -184,22 +184,27 @@ class Walk:
             self.say(write(PRESCALER, value))
 
     def time(self):
-        """One timer alone. Ticks: in the first cycle, and in each `period`-th after it. Pulses: at each `reload`-th tick."""
+        """One timer alone, that restarts or not. Ticks: in the first cycle, and in each `period`-th after it. Pulses: at the
+        `counts`-th tick, which finds the counter at 0, and where it restarts in each `counts`-th after it."""
         n, timer = self.any.choice([*enumerate(TIMERS)])
-        period, reload, cycles = (self.any.randrange(1, 2 ** self.any.randrange(1, bits + 1)) for bits in (15, 32, 64))
-        period += 1
+        prescaler_reload, reload = (self.any.randrange(2 ** self.any.randrange(bits + 1)) for bits in (16, 32))
+        cycles = self.any.randrange(1, 2 ** self.any.randrange(1, 65))
+        period, counts, restarts = prescaler_reload + 1, reload + 1, self.any.randrange(2)
         self.say(write(PRESCALER, 0))
-        self.say(write(PRESCALER_RELOAD, period - 1))
+        self.say(write(PRESCALER_RELOAD, prescaler_reload))
         self.say(write(timer + 4, reload))
-        self.say(write(timer + 8, 0x0F))  # EN, RS, IE, and LD: the counter takes the reload
+        self.say(write(timer + 8, 0x0D + 2 * restarts))  # EN, IE, and LD: the counter takes the reload; RS or not
         passes = self.any.choice([advance, skip])
-        passed = min(cycles, (reload - 1) * period + 1) if passes is skip else cycles
+        passed = min(cycles, reload * period + 1) if passes is skip else cycles
         ticks = (passed - 1) // period + 1
-        self.say(passes(cycles), cycles=passed, pulses=[ticks // reload if other == timer else 0 for other in TIMERS])
-        self.say(read(timer), value=reload - ticks % reload)
-        self.say(read(timer + 8), value=0x1B if ticks >= reload else 0x0B)
+        underflows = ticks // counts if restarts else min(ticks // counts, 1)
+        rests = underflows and not restarts
+        self.say(passes(cycles), cycles=passed, pulses=[underflows if other == timer else 0 for other in TIMERS])
+        self.say(read(timer), value=0xFFFFFFFF if rests else reload - ticks % counts)
+        control = 0x08 if rests else 0x09 + 2 * restarts
+        self.say(read(timer + 8), value=control + (0x10 if underflows else 0))
         self.say(write(timer + 8, 0x10))
-        self.prescaler, self.reloads[n] = period - 1 - (passed - 1) % period, reload
+        self.prescaler, self.reloads[n] = prescaler_reload - (passed - 1) % period, reload
 
     def malformed(self):
         """Another kind, or a record that would show in the machine but for one byte."""
@@ -421,16 +426,16 @@ example(
     (read(TIMER4), entry(value=0xFFFE)),
 )
 example(
-    "01: skip with the largest limit from reset",
-    (skip(LARGEST), entry(cycles=4294901760, pulses=(0, 0, 0, 1))),
-    (read(TIMER4), entry(value=0)),
+    "02: skip with the largest limit from reset",
+    (skip(LARGEST), entry(cycles=4294967296, pulses=(0, 0, 0, 1))),
+    (read(TIMER4), entry(value=0xFFFFFFFF)),
     (read(TIMER4 + 8), entry(value=0x18)),
     (skip(LARGEST), entry(cycles=LARGEST)),
 )
 example(
     "01: one cycle less",
-    (skip(4294901759), entry(cycles=4294901759)),
-    (read(TIMER4), entry(value=1)),
+    (skip(4294967295), entry(cycles=4294967295)),
+    (read(TIMER4), entry(value=0)),
     (read(TIMER4 + 8), entry(value=0x09)),
     (advance(1), entry(cycles=1, pulses=(0, 0, 0, 1))),
 )
@@ -446,7 +451,7 @@ example(
     *TWO_COUNTS,
     (write(TIMER1 + 8, 0x0B), WRITTEN),
     (advance(12), entry(cycles=12, pulses=(1, 0, 0, 0))),
-    (read(TIMER1), entry(value=1)),
+    (read(TIMER1), entry(value=2)),
     (read(TIMER1 + 8), entry(value=0x1B)),
     (write(TIMER1 + 8, 0x0B), WRITTEN),
     (read(TIMER1 + 8), entry(value=0x1B)),
@@ -457,8 +462,8 @@ example(
     "01: advance 13, as before",
     *TWO_COUNTS,
     (write(TIMER1 + 8, 0x0B), WRITTEN),
-    (advance(13), entry(cycles=13, pulses=(2, 0, 0, 0))),
-    (read(TIMER1), entry(value=2)),
+    (advance(13), entry(cycles=13, pulses=(1, 0, 0, 0))),
+    (read(TIMER1), entry(value=1)),
 )
 CHAINED = (
     *TWO_COUNTS,
@@ -470,13 +475,14 @@ CHAINED = (
 example(
     "01: skip 100 with timer 2 chained",
     *CHAINED,
-    (skip(100), entry(cycles=21, pulses=(0, 1, 0, 0))),
+    (skip(100), entry(cycles=45, pulses=(0, 1, 0, 0))),
     (read(TIMER2 + 8), entry(value=0x3B)),
 )
 example(
-    "01: skip 20 with timer 2 chained",
+    "01: skip 20 with timer 2 chained, and on to the cycle before the pulse",
     *CHAINED,
     (skip(20), entry(cycles=20)),
+    (skip(24), entry(cycles=24)),
     (read(TIMER2 + 8), entry(value=0x2B)),
     (skip(0), entry(cycles=0)),
     (skip(1), entry(cycles=1, pulses=(0, 1, 0, 0))),
@@ -514,28 +520,30 @@ example(
     (write(0x80000200, 0xFFFFFFFF, 3), entry(number=1)),
 )
 
+# A timer with reload n pulses at every (n + 1)-th of the 2^63 ticks.
+PERIODS = (1, 3, 5, 7)
 example(
     "pulse counts of 64 bits: a tick in every other cycle, from the first on",
     (write(PRESCALER, 0), WRITTEN),
     (write(PRESCALER_RELOAD, 1), WRITTEN),
-    *((write(timer + 4, reload), WRITTEN) for timer, reload in zip(TIMERS, (1, 3, 5, 7))),
+    *((write(timer + 4, period - 1), WRITTEN) for timer, period in zip(TIMERS, PERIODS)),
     *((write(timer + 8, 0x0F), WRITTEN) for timer in TIMERS),
-    (advance(LARGEST), entry(cycles=LARGEST, pulses=(2**63, 2**63 // 3, 2**63 // 5, 2**63 // 7))),
-    *((read(timer), entry(value=reload - 2**63 % reload)) for timer, reload in zip(TIMERS, (1, 3, 5, 7))),
+    (advance(LARGEST), entry(cycles=LARGEST, pulses=[2**63 // period for period in PERIODS])),
+    *((read(timer), entry(value=period - 1 - 2**63 % period)) for timer, period in zip(TIMERS, PERIODS)),
 )
 
 # 8. 02's short spans: the prescaler at 5, and timer 1 pulses at its next tick. Behind each span what it left is read.
 PULSE_NEXT = (
     (write(PRESCALER, 5), WRITTEN),
     (write(PRESCALER_RELOAD, 3), WRITTEN),
-    (write(TIMER1, 1), WRITTEN),
+    (write(TIMER1, 0), WRITTEN),
     (write(TIMER1 + 4, 2), WRITTEN),
     (write(TIMER1 + 8, 0x0B), WRITTEN),
 )
 for kind, spans in (
     # a span, the cycles and the pulses that it has, and the prescaler and timer 1 after it
-    (advance, [(0, 0, 0, 5, 1), (1, 1, 0, 4, 1), (5, 5, 0, 0, 1), (6, 6, 1, 3, 2), (7, 7, 1, 2, 2), (10, 10, 1, 3, 1)]),
-    (skip, [(0, 0, 0, 5, 1), (1, 1, 0, 4, 1), (5, 5, 0, 0, 1), (6, 6, 1, 3, 2), (7, 6, 1, 3, 2), (LARGEST, 6, 1, 3, 2)]),
+    (advance, [(0, 0, 0, 5, 0), (1, 1, 0, 4, 0), (5, 5, 0, 0, 0), (6, 6, 1, 3, 2), (7, 7, 1, 2, 2), (10, 10, 1, 3, 1)]),
+    (skip, [(0, 0, 0, 5, 0), (1, 1, 0, 4, 0), (5, 5, 0, 0, 0), (6, 6, 1, 3, 2), (7, 6, 1, 3, 2), (LARGEST, 6, 1, 3, 2)]),
 ):
     for span, cycles, pulses, prescaler, timer in spans:
         example(
@@ -553,6 +561,52 @@ for kind, spans in (
         (kind(0), entry()),
         (kind(1), entry(cycles=1, pulses=(1, 0, 0, 0))),
     )
+
+# 9. 02's underflow after zero.
+example(
+    "02: prescaler and timer with reload 0: a pulse in each cycle",
+    (write(PRESCALER, 0), WRITTEN),
+    (write(PRESCALER_RELOAD, 0), WRITTEN),
+    (write(TIMER1 + 8, 0x0B), WRITTEN),
+    (advance(3), entry(cycles=3, pulses=(3, 0, 0, 0))),
+    (read(PRESCALER), entry(value=0)),
+    (read(TIMER1), entry(value=0)),
+    (read(TIMER4), entry(value=0xFFFC)),
+    (skip(100), entry(cycles=1, pulses=(1, 0, 0, 0))),
+    (advance(LARGEST), entry(cycles=LARGEST, pulses=(LARGEST, 0, 0, 1))),
+)
+example(
+    "02: prescaler reload 0 and a value above it: the first tick in cycle 6, then one in each",
+    (write(PRESCALER, 5), WRITTEN),
+    (write(PRESCALER_RELOAD, 0), WRITTEN),
+    (write(TIMER1 + 8, 0x0B), WRITTEN),
+    (advance(5), entry(cycles=5)),
+    (advance(1), entry(cycles=1, pulses=(1, 0, 0, 0))),
+    (advance(2), entry(cycles=2, pulses=(2, 0, 0, 0))),
+)
+example(
+    "02: a one-shot rests at 0xFFFFFFFF, and enabled again takes 2^32 counts; what is chained to it counts once each time",
+    (write(PRESCALER, 0), WRITTEN),
+    (write(PRESCALER_RELOAD, 0), WRITTEN),
+    (write(TIMER4 + 8, 0), WRITTEN),
+    (write(TIMER1, 1), WRITTEN),
+    (write(TIMER1 + 4, 7), WRITTEN),
+    (write(TIMER1 + 8, 0x09), WRITTEN),
+    (write(TIMER2, 5), WRITTEN),
+    (write(TIMER2 + 8, 0x2B), WRITTEN),
+    (advance(1), entry(cycles=1)),
+    (read(TIMER1), entry(value=0)),
+    (read(TIMER1 + 8), entry(value=0x09)),
+    (advance(100), entry(cycles=100, pulses=(1, 0, 0, 0))),
+    (read(TIMER1), entry(value=0xFFFFFFFF)),
+    (read(TIMER1 + 8), entry(value=0x18)),
+    (read(TIMER2), entry(value=4)),
+    (write(TIMER1 + 8, 0x09), WRITTEN),
+    (skip(2**32 - 1), entry(cycles=2**32 - 1)),
+    (read(TIMER1), entry(value=0)),
+    (skip(LARGEST), entry(cycles=1, pulses=(1, 0, 0, 0))),
+    (read(TIMER2), entry(value=3)),
+)
 
 # Running them.
 

@@ -28,7 +28,7 @@ EN, RS, LD, IE, IP, CH = 1 << 0, 1 << 1, 1 << 2, 1 << 3, 1 << 4, 1 << 5
 CONFIG_FIXED = 0x144
 DF = 1 << 9
 
-NEVER = float("inf")  # the tick of what does not happen; it compares and adds with whole numbers as one would expect
+NEVER = float("inf")  # the number of what does not happen; it compares and adds with whole numbers as one would expect
 
 
 class SerialPort:
@@ -97,6 +97,8 @@ def ends_in(steps, first, period):
 class Timer:
     """How it stands after k counts depends on k alone, so nothing here goes from count to count."""
 
+    SPENT = 0xFFFFFFFF  # the counter after an underflow without RS
+
     def __init__(self, before=None, counter=0, reload=0, control=0):
         self.before = before  # the timer before it, which timer 1 has not
         self.counter = counter
@@ -140,18 +142,23 @@ class Timer:
 
     # Which counts are its underflows, in the same two ways.
 
-    def counts_from(self, number):
-        """The counts from this number to the underflow: 0 goes to 0xFFFFFFFF first."""
-        return number or 1 << 32
+    def first(self):
+        """The counts to the first underflow: those in which the counter falls to 0, and the one that finds it 0."""
+        return self.counter + 1
+
+    def period(self):
+        """The counts from an underflow to the next one: the same, from the reload."""
+        return self.reload + 1
+
+    def last_underflow(self):
+        """The number of the last underflow: with RS it never comes; without, it is the first, which clears EN."""
+        return NEVER if self.control & RS else 1
 
     def underflows(self, counts):
-        underflows = ends_in(counts, self.counts_from(self.counter), self.counts_from(self.reload))
-        return underflows if self.control & RS else min(underflows, 1)
+        return min(ends_in(counts, self.first(), self.period()), self.last_underflow())
 
     def count_of_underflow(self, k):
-        if k > 1 and not self.control & RS:
-            return NEVER
-        return self.counts_from(self.counter) + (k - 1) * self.counts_from(self.reload)
+        return self.first() + (k - 1) * self.period() if k <= self.last_underflow() else NEVER
 
     def underflows_in(self, ticks):
         return self.underflows(self.counts_in(ticks))
@@ -166,8 +173,10 @@ class Timer:
         return underflows if self.control & IE else 0
 
     def counter_after(self, counts, underflows):
-        """Each count takes 1, and each underflow puts the reload on top of the 0 that is left."""
-        return (self.counter - counts + underflows * self.reload) % (1 << 32)
+        """Each count takes 1, and each underflow gives a period: it finds 0, and 0 - 1 + period is the reload."""
+        if underflows and not self.control & RS:
+            return self.SPENT
+        return self.counter - counts + underflows * self.period()
 
     def count(self, counts):
         """Do so many counts, and return the number of pulses."""
@@ -177,7 +186,6 @@ class Timer:
         if underflows:
             self.control |= IP
             if not self.control & RS:
-                self.counter = 0
                 self.control &= ~EN
         return pulses
 
@@ -217,14 +225,17 @@ class TimerUnit:
 
     # The prescaler, in the same two ways: how many of the next cycles are ticks, and in which cycle the k-th tick is.
 
+    def first(self):
+        return self.scaler + 1
+
     def period(self):
-        return (self.sreload or 0xFFFF) + 1
+        return self.sreload + 1
 
     def ticks_in(self, cycles):
-        return ends_in(cycles, self.scaler + 1, self.period())
+        return ends_in(cycles, self.first(), self.period())
 
     def cycle_of_tick(self, k):
-        return self.scaler + 1 + (k - 1) * self.period()
+        return self.first() + (k - 1) * self.period()
 
     # Section 7.
 

@@ -1,6 +1,6 @@
 """Boards with one slip each, to see how a failure is shown. SLIPS has them by name: the class, and what is wrong."""
 
-from board import CH, EN, IP, NO_WINDOW, PAST_END, RE, RS, Board, SerialPort, Timer, TimerUnit
+from board import CH, EN, IP, NO_WINDOW, PAST_END, RE, Board, SerialPort, Timer, TimerUnit
 from bridge import Answer
 
 SLIPS = {}
@@ -17,11 +17,11 @@ def slip(name, description):
 # The seven of docs/MANUAL.md, section 10.
 
 
-@slip("prescaler-period", "the prescaler's period is its reload, in place of reload + 1")
+@slip("prescaler-period", "the prescaler's period is its reload, in place of reload + 1; reload 0 stays a period of 1")
 class PrescalerPeriod(Board):
     class Unit(TimerUnit):
         def period(self):
-            return self.sreload or 0xFFFF
+            return self.sreload or 1
 
 
 @slip("chain-late", "a chained timer counts one tick after the underflow before it, in place of in the same tick")
@@ -59,13 +59,12 @@ class PulseWithheld(Board):
                 return 0 if self.control & IP else min(super().pulses(underflows), 1)
 
 
-@slip("one-shot-twice", "a one-shot timer underflows again after its reload, if that falls into the same advance")
+@slip("one-shot-twice", "a one-shot timer underflows again reload + 1 counts later, if that falls into the same wait")
 class OneShotTwice(Board):
     class Unit(TimerUnit):
         class Timer(Timer):
-            def underflows(self, counts):
-                twice = counts >= self.counts_from(self.counter) + self.counts_from(self.reload)
-                return 2 if twice and not self.control & RS else super().underflows(counts)
+            def last_underflow(self):
+                return max(super().last_underflow(), 2)
 
 
 @slip("ip-cleared-by-0", "a 0 written to IP clears it and a 1 keeps it, in place of the other way round")
@@ -90,7 +89,7 @@ class CutAdvance(Board):
 
     def advance(self, cycles):
         if self.just_advanced:
-            self.unit.scaler = self.unit.period() - 1
+            self.unit.scaler = self.unit.sreload
         self.just_advanced = True
         return super().advance(cycles)
 
@@ -158,18 +157,40 @@ class Timer1Chained(Board):
                 return self.control & EN and (self.before or not self.control & CH)
 
 
-@slip("zero-underflows", "a counter at 0 underflows at the next count, in place of 2^32 counts later")
-class ZeroUnderflows(Board):
+@slip("timer-period", "a timer's period is its reload, in place of reload + 1; reload 0 stays a period of 1")
+class TimerPeriod(Board):
     class Unit(TimerUnit):
         class Timer(Timer):
-            def counts_from(self, number):
-                return number or 1
+            def period(self):
+                return self.reload or 1
+
+
+@slip("one-shot-at-0", "an underflow without RS leaves the counter at 0, in place of 0xFFFFFFFF")
+class OneShotAt0(Board):
+    class Unit(TimerUnit):
+        class Timer(Timer):
+            SPENT = 0
+
+
+@slip("reload-0-wraps", "a prescaler reload of 0 is a period of 65,536, in place of 1")
+class Reload0Wraps(Board):
+    class Unit(TimerUnit):
+        def period(self):
+            return super().period() if self.sreload else 1 << 16
+
+
+@slip("underflow-at-0", "a counter underflows when it arrives at 0, in place of at the next count; 0 is 2^32 counts")
+class UnderflowAt0(Board):
+    class Unit(TimerUnit):
+        class Timer(Timer):
+            def first(self):
+                return self.counter or 1 << 32
+
+            def period(self):
+                return self.reload or 1 << 32
 
             def counter_after(self, counts, underflows):
-                if underflows and not self.reload:
-                    return 0
-                from_0 = counts > 0 and self.counter == 0  # this count takes nothing
-                return super().counter_after(counts, underflows) + from_0
+                return super().counter_after(counts, underflows) % (1 << 32)  # 0 stands for 2^32
 
 
 @slip("reset-keeps-queues", "a reset leaves the bytes in the queues")

@@ -1,5 +1,6 @@
 -- Paper 01, "Bench examples": those with *, shown from the definitions in one checked table. Each line has what the
--- definitions give and what the paper says.
+-- definitions give and what the paper says. The timers' numbers are those of paper 02, No. 3: "01's counting line, prescaler
+-- line and examples change".
 use Prim.Native.Nat.{ℕ, _+_}
 use mathlib.Core.Path.{_≡_, refl}
 use mathlib.Core.List.{List, [], _∷_, _++_, map}
@@ -56,25 +57,29 @@ eight = Offer 0 1 ∷ Offer 0 2 ∷ Offer 0 3 ∷ Offer 0 4 ∷ Offer 0 5 ∷ Of
 
 examples : List Example
 examples =
-    -- "From reset, skip with the largest limit passes 4294901760; timer 4 pulses once, counter 0, control 0x18. One cycle
-    -- less: counter 1, control 0x09."
-    next (Skip largest) [] .cycles gives 4294901760 ∷
+    -- 02: "from reset the skip passes 4294967296 and leaves counter 0xFFFFFFFF". 01: "timer 4 pulses once, .. control 0x18."
+    -- One cycle less: timer 4 has counted 65,535 times, down to 0, and control is 0x09.
+    next (Skip largest) [] .cycles gives 4294967296 ∷
     pulsesOf 4 (next (Skip largest) []) gives 1 ∷
     allPulses (next (Skip largest) []) gives 1 ∷
-    wordAt 0x80000340 (Skip largest ∷ []) gives 0 ∷
+    wordAt 0x80000340 (Skip largest ∷ []) gives 0xFFFFFFFF ∷
     wordAt 0x80000348 (Skip largest ∷ []) gives 0x18 ∷
-    wordAt 0x80000340 (Skip oneLess ∷ []) gives 1 ∷
+    wordAt 0x80000340 (Skip oneLess ∷ []) gives 0 ∷
     wordAt 0x80000348 (Skip oneLess ∷ []) gives 0x09 ∷
-    -- "Advance 12: one pulse, counter 1." "Advance 13: two, counter 2."
+    -- "Advance 12": the ticks of cycles 1, 5 and 9 find the counter at 2, 1 and 0: one pulse, counter 2. "Advance 13": one
+    -- tick more and no pulse, counter 1.
     pulsesOf 1 (next (Advance 12) (periodic 0x0B)) gives 1 ∷
     allPulses (next (Advance 12) (periodic 0x0B)) gives 1 ∷
-    wordAt 0x80000310 (periodic 0x0B ++ (Advance 12 ∷ [])) gives 1 ∷
-    pulsesOf 1 (next (Advance 13) (periodic 0x0B)) gives 2 ∷
-    allPulses (next (Advance 13) (periodic 0x0B)) gives 2 ∷
-    wordAt 0x80000310 (periodic 0x0B ++ (Advance 13 ∷ [])) gives 2 ∷
-    -- "Skip 100 passes 21, timer 2 control 0x3B." "Skip 20 passes 20, no pulse."
-    next (Skip 100) chained .cycles gives 21 ∷
+    wordAt 0x80000310 (periodic 0x0B ++ (Advance 12 ∷ [])) gives 2 ∷
+    pulsesOf 1 (next (Advance 13) (periodic 0x0B)) gives 1 ∷
+    allPulses (next (Advance 13) (periodic 0x0B)) gives 1 ∷
+    wordAt 0x80000310 (periodic 0x0B ++ (Advance 13 ∷ [])) gives 1 ∷
+    -- 02: "the chained example first pulses at cycle 45". 01: "Skip 100 passes" these, "timer 2 control 0x3B." One cycle less
+    -- has none, nor has 01's "Skip 20 passes 20, no pulse."
+    next (Skip 100) chained .cycles gives 45 ∷
     wordAt 0x80000328 (chained ++ (Skip 100 ∷ [])) gives 0x3B ∷
+    next (Skip 44) chained .cycles gives 44 ∷
+    allPulses (next (Skip 44) chained) gives 0 ∷
     next (Skip 20) chained .cycles gives 20 ∷
     allPulses (next (Skip 20) chained) gives 0 ∷
     -- "Control 0x1B: writing 0x0B leaves 0x1B; writing 0x1B leaves 0x0B."
@@ -98,6 +103,5 @@ examples =
 
 checked : map (λ (e : Example). e .given) examples ≡ map (λ (e : Example). e .said) examples
 unfolding examples eight periodic chained pending gr712rc answer refusal allWell levelsOf uart.wellFormed uart.read
-    uart.write uart.offer gpt.read gpt.write gpt.advance gpt.skip gpt.valueAfterTick gpt.cycle gpt.cyclePulses gpt.count
-    gpt.fall gpt.countUnderflows
+    uart.write uart.offer gpt.read gpt.write gpt.advance gpt.skip gpt.cycle gpt.cyclePulses gpt.count gpt.countUnderflows
 checked = rw (skip-from-reset, skip-one-less) refl

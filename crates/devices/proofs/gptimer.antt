@@ -1,2 +1,3 @@
+pub mod Countdown
 pub mod Counting
 pub mod Spans

@@ -1,8 +1,9 @@
 -- The timer unit (GPTIMER): paper 01, section "Timer unit", with what "Windows" and "Refusal numbers" say of an offset
--- without a register and "The slow run" of advances and skips. One definition a rule, under the sentence that it states;
--- those that others use stand before them. Every field of the code's structs is a register or a bit of one, so the
--- definitions are on those structs. A call of the unit is never refused: "A case that the chosen types exclude needs no
--- test", and the code's types exclude each ill-formed state.
+-- without a register and "The slow run" of advances and skips, and paper 02, No. 3, which replaces 01's rule of counting
+-- and of the prescaler's reload 0. One definition a rule, under the sentence that it states; those that others use stand
+-- before them. Every field of the code's structs is a register or a bit of one, so the definitions are on those structs.
+-- A call of the unit is never refused: "A case that the chosen types exclude needs no test", and the code's types exclude
+-- each ill-formed state.
 pub mod Span
 pub mod Pulses
 pub mod Laws
@@ -174,21 +175,18 @@ write offset value u =
     (withTimer (offset / STRIDE) (writeTimer (offset % STRIDE) value (timer (offset / STRIDE) u)) u)
     u)))
 
--- "Counting: the counter falls by 1; a counter at 0 goes to 0xFFFFFFFF (house)."
-unfoldable pub fall : ℕ → ℕ
-fall counter = cond (eqb counter 0) 0xFFFFFFFF (counter - 1)
-
--- "If the new number is 0 it is an underflow:"
+-- Counting, paper 02, No. 3: "From now on a counting timer at 0 underflows;"
 unfoldable pub countUnderflows : Timer → Bool
-countUnderflows t = eqb (fall (t .counter)) 0
+countUnderflows t = eqb (t .counter) 0
 
--- "IP is set; with RS the counter takes the reload, without it EN is cleared;"
+-- "with RS it takes the reload, without it the counter stays at 0xFFFFFFFF and EN is cleared." At an underflow, 01 says,
+-- "IP is set".
 abbrev pub underflow : Timer → Timer
-underflow t = withIp true (cond (t .rs) (withCounter (t .reload) t) (withEn false t))
+underflow t = withIp true (cond (t .rs) (withCounter (t .reload) t) (withEn false (withCounter 0xFFFFFFFF t)))
 
+-- "A counter above 0 only falls", in 01's words "by 1".
 unfoldable pub count : Timer → Timer
-count t =
-    cond (countUnderflows t) (underflow (withCounter (fall (t .counter)) t)) (withCounter (fall (t .counter)) t)
+count t = cond (countUnderflows t) (underflow t) (withCounter (t .counter - 1) t)
 
 -- "An enabled timer counts if CH is 0, or if timer n-1 underflowed in this same tick." Whether timer n-1 did is `before`.
 abbrev pub countsNow : Bool → Timer → Bool
@@ -218,15 +216,12 @@ tickPulses ts = servePulses true ts
 abbrev pub noPulses : List Timer → List ℕ
 noPulses ts = map (λ (t : Timer). 0) ts
 
--- "One cycle: if the prescaler value is 0 there is a tick, and the value becomes the reload, or 0xFFFF if the reload is
--- 0. Otherwise it falls by 1."
-unfoldable pub valueAfterTick : ℕ → ℕ
-valueAfterTick sreload = cond (eqb sreload 0) 0xFFFF sreload
-
+-- "One cycle: if the prescaler value is 0 there is a tick", and, 02, No. 3: "A tick now sets the prescaler value to the reload
+-- even where that is 0, and then each cycle ticks." "Otherwise it falls by 1."
 unfoldable pub cycle : Gptimer → Gptimer
 cycle u =
     cond (eqb (u .scaler) 0)
-    (withScaler (valueAfterTick (u .sreload)) (withTimers (tick (u .timers)) u))
+    (withScaler (u .sreload) (withTimers (tick (u .timers)) u))
     (withScaler (u .scaler - 1) u)
 
 unfoldable pub cyclePulses : Gptimer → List ℕ

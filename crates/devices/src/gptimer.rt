@@ -4,7 +4,7 @@
 // (`specs/Gptimer/Direct.antt`), and a skip from the time of the next pulse.
 ghost use mathlib.Core.Path.{_≡_};
 ghost use mathlib.Core.Bool.{cond, false};
-ghost use Prim.Native.Nat.{_<_, _≤_, min};
+ghost use Prim.Native.Nat.{_<_, _≤_, suc, min};
 ghost use Rattle.devices.specs.Word.{bit};
 ghost use Rattle.devices.specs.Gptimer as gpt;
 ghost use Rattle.devices.specs.Gptimer.Direct as direct;
@@ -63,6 +63,12 @@ struct Served {
     timer: Timer,
 }
 
+// A countdown that has ended and started again: how often, and where it stands.
+struct Restarted {
+    ends: u64,
+    value: u32,
+}
+
 impl Span {
     // The most cycles that it can have.
     fn most(self) -> u64
@@ -95,6 +101,9 @@ impl Timer {
     pub const IP: u32 = 0x10;
     // Chain: the timer counts the underflows of the one before it; timer 1 ignores it.
     pub const CH: u32 = 0x20;
+
+    // Where the counter comes to rest that underflows without restart.
+    pub const AT_REST: u32 = 0xFFFF_FFFF;
 
     // Timer 4 at reset: its counter and reload, and its control, EN and IE.
     pub const RESET_COUNTER_4: u32 = 0xFFFF;
@@ -205,17 +214,6 @@ impl Timer {
         self
     }
 
-    // How many counts a counter is away from its underflow: a counter at 0 goes once round.
-    fn counts_left(counter: u32) -> u64
-        ensures is { λ r. ⌜ r ≡ direct.countsLeft counter ⌝ }
-        ensures within { λ r. ⌜ (0 < r) × (r ≤ 0x100000000) ⌝ }
-    {
-        if counter == 0 {
-            return 0x1_0000_0000;
-        }
-        counter as u64
-    }
-
     // The timer after some ticks, in which the one before it underflowed `before` times.
     fn serve(self, ticks: u64, before: u64) -> Served
         ensures { λ r. ⌜ r ≡ direct.servedTimer ticks before self ⌝ }
@@ -231,8 +229,7 @@ impl Timer {
         ensures { λ r. ⌜ r ≡ direct.countedTimer counts self ⌝ }
     {
         if self.en {
-            let first = Self::counts_left(self.counter);
-            if counts < first {
+            if counts <= self.counter as u64 {
                 self.counter = std::num::wrapping_sub_u32(self.counter, counts as u32);
                 return Served {
                     underflows: 0,
@@ -242,17 +239,15 @@ impl Timer {
             }
             self.ip = true;
             if self.rs {
-                let past = counts - first;
-                let period = Self::counts_left(self.reload);
-                self.counter = std::num::wrapping_sub_u32(self.reload, (past % period) as u32);
-                let underflows = 1 + past / period;
+                let restarted = restart(self.counter, self.reload, counts);
+                self.counter = restarted.value;
                 return Served {
-                    underflows,
-                    pulses: self.pulses(underflows),
+                    underflows: restarted.ends,
+                    pulses: self.pulses(restarted.ends),
                     timer: self,
                 };
             }
-            self.counter = 0;
+            self.counter = Self::AT_REST;
             self.en = false;
             return Served {
                 underflows: 1,
@@ -273,12 +268,11 @@ impl Timer {
         ensures { λ r. ⌜ r ≡ direct.due j self ⌝ }
     {
         if self.en {
-            let first = Self::counts_left(self.counter);
-            if j == 1 {
-                return first;
-            }
             if self.rs {
-                return ends_at(first, Self::counts_left(self.reload), j);
+                return ends_at(self.counter, self.reload, j);
+            }
+            if j == 1 {
+                return self.counter as u64 + 1;
             }
             return u64::MAX;
         }
@@ -415,11 +409,9 @@ impl Gptimer {
         requires { ⌜ self .scaler < cycles ⌝ }
         ensures { λ r. ⌜ r ≡ gpt.advance cycles self ⌝ }
     {
-        let past = cycles - (self.scaler as u64 + 1);
-        let restart = self.value_after_tick();
-        let period = restart + 1;
-        self.scaler = (restart - past % period) as u16;
-        self.tick(cycles, 1 + past / period)
+        let restarted = restart(self.scaler as u32, self.sreload as u32, cycles);
+        self.scaler = restarted.value as u16;
+        self.tick(cycles, restarted.ends)
     }
 
     // The unit after some ticks, and the pulses in them; `cycles` is only passed on.
@@ -441,17 +433,6 @@ impl Gptimer {
             pulses: [first.pulses, second.pulses, third.pulses, fourth.pulses],
             unit: self,
         }
-    }
-
-    // The value that a tick gives the prescaler.
-    fn value_after_tick(self) -> u64
-        ensures is { λ r. ⌜ r ≡ gpt.valueAfterTick (self .sreload) ⌝ }
-        ensures within { λ r. ⌜ r ≤ 0xFFFF ⌝ }
-    {
-        if self.sreload == 0 {
-            return 0xFFFF;
-        }
-        self.sreload as u64
     }
 
     // Cycles pass until one has a pulse, or to the limit.
@@ -483,11 +464,7 @@ impl Gptimer {
     fn next_pulse(self) -> u64
         ensures { λ r. ⌜ r ≡ direct.tickCycle self (direct.firstTick (self .timers)) ⌝ }
     {
-        ends_at(
-            self.scaler as u64 + 1,
-            self.value_after_tick() + 1,
-            self.first_tick(),
-        )
+        ends_at(self.scaler as u32, self.sreload as u32, self.first_tick())
     }
 
     // The tick of the next pulse.
@@ -530,12 +507,28 @@ impl Gptimer {
     }
 }
 
-// A countdown that ends at its count `first` and then every `period` counts: the count at which it ends for the j-th time,
-// u64::MAX where that is beyond 64 bits.
-fn ends_at(first: u64, period: u64, j: u64) -> u64
-    requires { ⌜ (0 < period) × (0 < j) ⌝ }
-    ensures { λ r. ⌜ r ≡ direct.endsAt first period j ⌝ }
+// The prescaler and each timer are a countdown that stands at `value` and starts again from `reload`: it ends at the count that
+// finds it at 0, its (value + 1)-th, and then at every (reload + 1)-th. What it comes to in more counts than `value`:
+fn restart(value: u32, reload: u32, counts: u64) -> Restarted
+    requires { ⌜ value < counts ⌝ }
+    ensures ends { λ r. ⌜ r .ends ≡ suc (direct.periods value reload counts) ⌝ }
+    ensures stands { λ r. ⌜ r .value ≡ direct.left value reload counts ⌝ }
 {
+    let past = counts - (value as u64 + 1);
+    let period = reload as u64 + 1;
+    Restarted {
+        ends: 1 + past / period,
+        value: std::num::wrapping_sub_u32(reload, (past % period) as u32),
+    }
+}
+
+// The count at which such a countdown ends for the j-th time, u64::MAX where that is beyond 64 bits.
+fn ends_at(value: u32, reload: u32, j: u64) -> u64
+    requires { ⌜ 0 < j ⌝ }
+    ensures { λ r. ⌜ r ≡ direct.endsAt value reload j ⌝ }
+{
+    let first = value as u64 + 1;
+    let period = reload as u64 + 1;
     let again = j - 1;
     if (u64::MAX - first) / period < again {
         return u64::MAX;

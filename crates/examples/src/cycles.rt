@@ -12,11 +12,11 @@ const SMALL: u32 = 61_440;
 
 const SMALL_CYCLES: u32 = 24;
 // CHAINS has four timers that restart, each chained to the one before it: every setting of IE, and every mixture of
-// counters and reloads 1 and 2.
+// counters and reloads 0 and 1.
 const CHAINS: u32 = 4_096;
 
 const CHAINS_CYCLES: u32 = 80;
-// FAR has some units of SMALL again, past the ticks of a prescaler whose reload is 0.
+// FAR has some units of SMALL again, with the prescaler's longest period.
 const FAR: u32 = 64;
 
 const FAR_CYCLES: u32 = 140_000;
@@ -166,7 +166,7 @@ fn plus(a: u64, b: u64) -> u64 {
 fn unit(set: u32, i: u32) -> Gptimer {
     match set {
         CHAINS => chain(i),
-        FAR => small(i % FAR * FAR_STRIDE),
+        FAR => far(i % FAR * FAR_STRIDE),
         _ => small(i),
     }
 }
@@ -185,6 +185,12 @@ fn small(i: u32) -> Gptimer {
     }
 }
 
+fn far(i: u32) -> Gptimer {
+    let mut unit = small(i);
+    unit.sreload = 0xFFFF;
+    unit
+}
+
 fn chain(i: u32) -> Gptimer {
     let one = link(i % 8);
     let two = link(i / 8 % 8);
@@ -198,9 +204,9 @@ fn chain(i: u32) -> Gptimer {
     }
 }
 
-// EN, RS and CH, and by the bits of n: IE, a counter and a reload of 2, not 1.
+// EN, RS and CH, and by the bits of n: IE, a counter and a reload of 1, not 0.
 fn link(n: u32) -> Timer {
-    timer(19 + n % 2 * 4, 1 + n / 2 % 2, 1 + n / 4 % 2)
+    timer(19 + n % 2 * 4, n / 2 % 2, n / 4 % 2)
 }
 
 // A timer with the flags EN, RS, IE, IP and CH in the bits of a number.

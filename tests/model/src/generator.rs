@@ -1,7 +1,9 @@
 //! Scripts determined by a seed, varied and biased to rare states. The script of a seed is fixed for
-//! one state of this generator, and a later one may have another. It knows nothing of the model's
-//! behaviour: it only remembers what it wrote to the timer unit, to choose spans near the unit's
-//! periods, and how many bytes wait in a `Stream`, to keep them flowing.
+//! one state of this generator, and a later one may have another. It asks nothing of the model: it
+//! remembers what it wrote to the timer unit, to choose spans near the unit's periods and pulses, and
+//! how many bytes wait in a `Stream`, to keep them flowing.
+
+use std::ops::Range;
 
 use crate::random::Random;
 use crate::script::{Call, CALL_LENGTH, SCRIPT_HEADER};
@@ -88,8 +90,8 @@ impl Family {
                  300 resets and more; no time passes"
             }
             Family::Chains => {
-                "timers in long use: chains whose pulses are up to 2^144 cycles away, more than 2^32 pulses \
-                 in a wait and more than 2^64 in a few, hundreds of waits"
+                "timers in long use: chains whose pulses are up to 2^144 cycles away, up to 2^64-1 pulses in \
+                 a wait and more than 2^64 in a few, hundreds of waits"
             }
         }
     }
@@ -173,7 +175,7 @@ struct Generator {
     damaging: bool,
     /// What is left of `SHORT_TOTAL`.
     cycles_left: u64,
-    /// The values last written to the timer unit.
+    /// The values last written to the timer unit, or where a one-shot was brought to rest.
     scaler: u64,
     scaler_reload: u64,
     counters: [u64; timer::TIMERS],
@@ -313,10 +315,16 @@ impl Generator {
     // Timer unit.
 
     fn timer_step(&mut self) {
-        match self.random.below(10) {
+        match self.random.below(15) {
             0 | 1 => self.set_up_timers(),
             2 => self.set_up_chain(),
-            3 if self.family != Family::Short && self.random.one_in(3) => self.set_up_long_chain(),
+            3 if self.family != Family::Short && self.random.one_in(2) => {
+                if self.random.one_in(2) {
+                    self.set_up_long_chain();
+                } else {
+                    self.skip_to_edge();
+                }
+            }
             3 => self.set_up_chain(),
             4 => self.write_timer_register(),
             5 => self.read_timers(),
@@ -324,7 +332,12 @@ impl Generator {
                 let offset = 4 * self.random.below(24) as u32;
                 self.read(UNIT + offset);
             }
+            7 | 8 => self.aim_at_pulses(),
+            9 | 10 => self.enable_again(),
             _ => {
+                if self.random.one_in(8) {
+                    self.set_up_many_pulses();
+                }
                 for _ in 0..=self.random.below(4) {
                     self.pass();
                 }
@@ -362,6 +375,12 @@ impl Generator {
             self.scaler = u64::from(value as u16);
             self.write(UNIT + timer::SCALER, value);
         }
+    }
+
+    fn set_prescaler(&mut self, value: u16, reload: u16) {
+        (self.scaler, self.scaler_reload) = (value.into(), reload.into());
+        self.write(UNIT + timer::SCALER_RELOAD, reload.into());
+        self.write(UNIT + timer::SCALER, value.into());
     }
 
     fn set_up_timers(&mut self) {
@@ -402,7 +421,7 @@ impl Generator {
                 _ => {}
             }
             let reload =
-                if self.random.one_in(8) { self.counter_value() } else { 1 + self.random.below(5) as u32 };
+                if self.random.one_in(8) { self.counter_value() } else { self.random.below(5) as u32 };
             let counter = if self.random.one_in(4) { self.counter_value() } else { reload };
             self.set_up_timer(timer, counter, reload, control);
         }
@@ -415,7 +434,7 @@ impl Generator {
         let last = 2 + self.random.below(2) as usize;
         for timer in 1..=timer::TIMERS {
             let shorter = u32::MAX >> self.random.below(24);
-            let number = self.random.pick(&[0, 1 << 31, u32::MAX, shorter, shorter]);
+            let number = self.random.pick(&[0, u32::MAX, u32::MAX, shorter, shorter]);
             let few = self.random.below(3) as u32;
             let control = match timer {
                 _ if timer > last => 0,
@@ -427,6 +446,121 @@ impl Generator {
         let limit = self.random.pick(&[u64::MAX, u64::MAX, u64::MAX - 1, 1 << 63]);
         self.push(Call::Skip { limit });
         self.read_timers();
+    }
+
+    /// Most cycles tick, and timer 1 pulses with every tick, the others with every first, second or
+    /// third of their counts.
+    fn set_up_many_pulses(&mut self) {
+        let reload = self.random.pick(&[0, 0, 0, 1, 2]);
+        self.set_prescaler(reload, reload);
+        for timer in 1..=timer::TIMERS {
+            let reload = if timer == 1 { 0 } else { self.random.below(3) as u32 };
+            let chained = self.random.pick(&[0, timer::CH]);
+            self.set_up_timer(timer, reload, reload, timer::EN | timer::RS | timer::IE | chained);
+        }
+    }
+
+    fn switch_off(&mut self, timers: impl IntoIterator<Item = usize>) {
+        for timer in timers {
+            self.write_timer(timer, timer::CONTROL, 0);
+        }
+    }
+
+    /// A timer, or a chain of them, whose pulses alone come, in cycles that are known; and skips to the
+    /// first few of them, or just short of them or past.
+    fn aim_at_pulses(&mut self) {
+        let (value, reload) = (self.prescaler_value(), self.prescaler_value());
+        self.set_prescaler(value as u16, reload as u16);
+        let first = 1 + self.random.below(4) as usize;
+        let last = (first + self.random.below(3) as usize).min(timer::TIMERS);
+        self.switch_off((1..first).chain(last + 1..=timer::TIMERS));
+        for timer in first..=last {
+            let mut control = timer::EN | timer::RS;
+            if timer > first || timer == 1 && self.random.one_in(4) {
+                control |= timer::CH;
+            }
+            if timer == last {
+                control |= timer::IE;
+            }
+            if self.random.one_in(6) {
+                control &= !timer::RS;
+            }
+            let (counter, reload) = (self.counter_value(), self.counter_value());
+            self.set_up_timer(timer, counter, reload, control);
+        }
+        let mut left = self.cycles_to_underflow(first - 1..last);
+        if self.random.one_in(3) {
+            let part = self.random.below(left);
+            left -= self.wait(part, false);
+        }
+        for _ in 0..3 {
+            let limit = self.at_or_beside(left);
+            left = left.saturating_sub(self.wait(limit, true));
+            if self.random.one_in(2) {
+                self.read_timers();
+            }
+            // With the pulse, the whole chain and the prescaler start again.
+            if left == 0 {
+                left = self.period(first - 1..last);
+            }
+        }
+    }
+
+    /// A one-shot that comes to rest, with a follower or without, and is enabled again: as it is, or
+    /// loaded, or to run on.
+    fn enable_again(&mut self) {
+        let (value, reload) = (self.prescaler_value(), self.prescaler_value());
+        self.set_prescaler(value as u16, reload as u16);
+        let timer = 1 + self.random.below(4) as usize;
+        if !self.random.one_in(4) {
+            self.switch_off((1..=timer::TIMERS).filter(|&other| other != timer));
+        }
+        let (counter, reload) = (self.random.below(4) as u32, self.counter_value());
+        let interrupt = self.random.pick(&[0, timer::IE, timer::IE, timer::IE]);
+        self.set_up_timer(timer, counter, reload, timer::EN | interrupt);
+        if timer < timer::TIMERS && self.random.one_in(2) {
+            let (counter, reload) = (self.random.below(3) as u32, self.random.below(3) as u32);
+            let control = timer::EN | timer::RS | timer::IE | timer::CH;
+            self.set_up_timer(timer + 1, counter, reload, control);
+        }
+        let left = self.cycles_to_underflow(timer - 1..timer);
+        let more = self.random.pick(&[0, 0, 1, 5, 1 << 20]);
+        let stops = more == 0 || self.random.one_in(2);
+        self.wait(left + more, stops);
+        self.read_timers();
+        self.counters[timer - 1] = u32::MAX.into();
+        self.scaler = self.scaler_reload;
+        for _ in 0..=self.random.below(2) {
+            let others = self.random.pick(&[0, 0, timer::LD, timer::RS, timer::IP, timer::IP | timer::RS]);
+            self.write_timer(timer, timer::CONTROL, timer::EN | timer::IE | others);
+            let left = self.cycles_to_underflow(timer - 1..timer);
+            let (span, stops) = (self.at_or_beside(left), !self.random.one_in(4));
+            self.wait(span, stops);
+            self.read_timers();
+        }
+    }
+
+    /// A span that ends with a cycle, or the one before it or after it, or goes on.
+    fn at_or_beside(&mut self, cycle: u64) -> u64 {
+        let after = cycle.saturating_add(1);
+        self.random.pick(&[cycle, cycle, cycle - 1, cycle - 1, after, after, after.saturating_mul(3)])
+    }
+
+    /// Cycles to the first underflow of the last of some timers in a chain, as they were written. A
+    /// number counts down to 0, and once more; then it starts again from the reload.
+    fn cycles_to_underflow(&self, timers: Range<usize>) -> u64 {
+        let timers = timers.rev().map(|index| (self.counters[index], self.reloads[index]));
+        let prescaler = std::iter::once((self.scaler, self.scaler_reload));
+        // The count with an underflow is the underflow, or tick, of what it counts.
+        timers.chain(prescaler).fold(1, |nth: u64, (number, reload)| {
+            (reload + 1).saturating_mul(nth - 1).saturating_add(number + 1)
+        })
+    }
+
+    /// Cycles between two such underflows, or between ticks if there are no timers.
+    fn period(&self, timers: Range<usize>) -> u64 {
+        let prescaler = self.scaler_reload + 1;
+        self.reloads[timers].iter().fold(prescaler, |cycles, reload| cycles.saturating_mul(reload + 1))
     }
 
     fn write_timer_register(&mut self) {
@@ -462,7 +596,7 @@ impl Generator {
     fn prescaler_value(&mut self) -> u32 {
         let wide = self.family != Family::Short || self.random.one_in(6);
         match self.random.below(8) {
-            0 if wide => 0,
+            0 => 0,
             1 if wide => self.random.pick(&[0xFFFF, 0xFFFE, 0x1_0000, 0x1_0001, 0xFFFF_FFFF, 0xABCD_0003]),
             2 if wide => self.random.word() >> self.random.below(32),
             3 => self.random.below(40) as u32,
@@ -472,11 +606,11 @@ impl Generator {
 
     fn counter_value(&mut self) -> u32 {
         match self.random.below(10) {
-            0 => self.random.pick(&[0, 1]),
+            0 => 0,
             1 => self.random.below(40) as u32,
-            2 => self.random.pick(&[0xFFFF, 0x1_0000, 0x8000_0000, 0xFFFF_FFFE, 0xFFFF_FFFF]),
+            2 => self.random.pick(&[0xFFFE, 0xFFFF, 0x7FFF_FFFF, 0xFFFF_FFFE, 0xFFFF_FFFF]),
             3 if self.family != Family::Short => self.random.word() >> self.random.below(32),
-            _ => 1 + self.random.below(6) as u32,
+            _ => self.random.below(6) as u32,
         }
     }
 
@@ -492,21 +626,23 @@ impl Generator {
     }
 
     fn pass(&mut self) {
-        let mut span = self.span();
+        let (span, stops) = (self.span(), self.random.one_in(2));
+        self.wait(span, stops);
+    }
+
+    /// Advances, or skips where it may stop; in a `Short` script not too far. Returns what it asked for.
+    fn wait(&mut self, mut span: u64, stops: bool) -> u64 {
         if self.family == Family::Short {
             // A period of 65536 fits into the total once.
             let most = if self.random.one_in(20) { 70_000 } else { 2_000 };
             span = span.min(most).min(self.cycles_left);
             self.cycles_left -= span;
         }
-        let call =
-            if self.random.one_in(2) { Call::Advance { cycles: span } } else { Call::Skip { limit: span } };
-        self.push(call);
+        self.push(if stops { Call::Skip { limit: span } } else { Call::Advance { cycles: span } });
+        span
     }
 
     fn span(&mut self) -> u64 {
-        let counts = |number: u64| if number == 0 { 1 << 32 } else { number };
-        let period = if self.scaler_reload == 0 { 1 << 16 } else { self.scaler_reload + 1 };
         let near = self.random.pick(&[0, 0, 0, 1, u64::MAX, 2, u64::MAX - 1]);
         match self.random.below(if self.family == Family::Short { 7 } else { 10 }) {
             0 => self.random.below(4),
@@ -514,16 +650,13 @@ impl Generator {
             2 => self.scaler.wrapping_add(near),
             // Near the first underflow after a set-up.
             3 => {
-                let counter = counts(self.random.pick(&self.counters));
-                (self.scaler + 1).wrapping_add(period.wrapping_mul(counter - 1)).wrapping_add(near)
+                let first = self.random.below(4) as usize;
+                self.cycles_to_underflow(first..first + 1).wrapping_add(near)
             }
             // Near multiples of the periods of the prescaler, of a timer, and of a chain.
             4..=6 => {
                 let (first, length) = (self.random.below(4) as usize, self.random.below(4) as usize);
-                let mut base = period;
-                for &reload in self.reloads.iter().skip(first).take(length) {
-                    base = base.saturating_mul(counts(reload));
-                }
+                let base = self.period(first..(first + length).min(timer::TIMERS));
                 let most = if self.random.one_in(4) { u64::MAX / base } else { 6.min(u64::MAX / base) };
                 base.wrapping_mul(1 + self.random.below(most)).wrapping_add(near)
             }
@@ -547,10 +680,11 @@ impl Generator {
     // Timers in long use.
 
     fn chain_step(&mut self) {
-        match self.random.below(8) {
+        match self.random.below(10) {
             0..=3 => self.set_up_any_chain(),
             4 | 5 => self.set_up_farthest_chain(),
-            6 => return self.many_pulses(),
+            6 | 7 => return self.skip_to_edge(),
+            8 => return self.many_pulses(),
             _ => return self.many_waits(),
         }
         for _ in 0..=self.random.below(5) {
@@ -567,12 +701,6 @@ impl Generator {
             1 | 2 => self.push(Call::Advance { cycles: span }),
             _ => self.push(Call::Skip { limit: span }),
         }
-    }
-
-    fn set_prescaler(&mut self, value: u16, reload: u16) {
-        (self.scaler, self.scaler_reload) = (value.into(), reload.into());
-        self.write(UNIT + timer::SCALER_RELOAD, reload.into());
-        self.write(UNIT + timer::SCALER, value.into());
     }
 
     /// A chain of two to four timers with numbers from end to end. The other timers are mostly off, so
@@ -610,49 +738,73 @@ impl Generator {
 
     fn far_number(&mut self) -> u32 {
         let any = self.random.word() >> self.random.below(32);
-        self.random.pick(&[0, 0, 1, 2, 0x1_0000, 1 << 31, u32::MAX, any, any])
+        self.random.pick(&[0, 0, 1, 0xFFFF, u32::MAX >> 1, u32::MAX, u32::MAX, any, any])
     }
 
     /// A chain of four timers with the only pulse about as far away as it can be, and a skip to it.
-    /// Most numbers are powers of two: what is left of a product that wraps, at 2^64 or 2^128, is then
-    /// so small that it lies within the limit. With 0 everywhere, tick 0 is left, which is no negative
-    /// cycle where the prescaler's value is not below its reload.
+    /// Most periods are powers of two: what is left of a product that wraps, at 2^64 or 2^128, is then
+    /// so small that it lies within the limit. With 2^32 everywhere, tick 0 is left, which is no
+    /// negative cycle where the prescaler's value is not below its reload.
     fn set_up_farthest_chain(&mut self) {
         let small = self.random.below(6) as u16;
-        let reload = self.random.pick(&[0, 0xFFFF, 0xFFFF, 0xFF, 1]);
+        let reload = self.random.pick(&[0, 0xFFFF, 0xFFFF, 0xFFFF, 0xFF, 1]);
         let value = self.random.pick(&[reload, 0xFFFF, 0xFFFF, small]);
         self.set_prescaler(value, reload);
         for timer in 1..=timer::TIMERS {
             let (numbers, mut control) = match timer {
-                1 => (&[0, 0, 0x1_0000, 1 << 31], timer::EN | timer::RS),
-                _ => (&[0, 0, 0, 1 << 31], timer::EN | timer::RS | timer::CH),
+                1 => (&[u32::MAX, u32::MAX, 0xFFFF, u32::MAX >> 1], timer::EN | timer::RS),
+                _ => (&[u32::MAX, u32::MAX, u32::MAX, u32::MAX >> 1], timer::EN | timer::RS | timer::CH),
             };
             if timer == timer::TIMERS {
                 control |= timer::IE;
             }
             let reload = self.random.pick(numbers);
-            // Where 0 stands for 2^32 there is no more.
-            let more = if timer == 1 && reload != 0 { self.random.below(4) as u32 } else { 0 };
-            self.set_up_timer(timer, reload + more, reload, control);
+            let more = if timer == 1 { self.random.below(4) as u32 } else { 0 };
+            self.set_up_timer(timer, reload.saturating_add(more), reload, control);
         }
         let limit = self.random.pick(&[u64::MAX, u64::MAX, u64::MAX - 1, 1 << 63]);
         self.push(Call::Skip { limit });
         self.read_timers();
     }
 
-    /// Timer 1 pulses with every tick, the others with every first, second or third of their counts.
+    /// A chain of four timers with the first pulse, the only one, in cycle 2^64 or a few cycles or ticks
+    /// beside it: the periods are powers of two, and their product is 2^64. There a product may fit
+    /// and the sum not; and the pulse may come with the last cycle of the largest limit.
+    fn skip_to_edge(&mut self) {
+        let all_ones = |bits: u64| (1_u64 << bits) - 1;
+        let bits = self.random.below(17);
+        let mut bits_left = 64 - bits;
+        let reload = all_ones(bits) as u16;
+        let few = 1 + self.random.below(2) as u16;
+        let (more, less) = (reload.saturating_add(few), reload.saturating_sub(few));
+        let value = self.random.pick(&[reload, more, less, less]);
+        self.set_prescaler(value, reload);
+        for timer in 1..=timer::TIMERS {
+            let least = bits_left.saturating_sub(32 * (timer::TIMERS - timer) as u64);
+            let bits = least + self.random.below(bits_left.min(32) - least + 1);
+            bits_left -= bits;
+            let reload = all_ones(bits) as u32;
+            let few = if timer == 1 && self.random.one_in(4) { 1 + self.random.below(2) as u32 } else { 0 };
+            let counter = self.random.pick(&[reload.saturating_add(few), reload.saturating_sub(few)]);
+            let control = match timer {
+                1 => timer::EN | timer::RS,
+                timer::TIMERS => timer::EN | timer::RS | timer::CH | timer::IE,
+                _ => timer::EN | timer::RS | timer::CH,
+            };
+            self.set_up_timer(timer, counter, reload, control);
+        }
+        let limit = self.random.pick(&[u64::MAX, u64::MAX, u64::MAX, u64::MAX - 1]);
+        self.push(Call::Skip { limit });
+        self.read_timers();
+        self.push(Call::Skip { limit: 3 });
+    }
+
     /// The pulses of each wait or of all five do not fit into 32 bits, or those of all five into 64.
     fn many_pulses(&mut self) {
-        let reload = self.random.pick(&[1, 1, 1, 2, 3]);
-        self.set_prescaler(reload, reload);
-        for timer in 1..=timer::TIMERS {
-            let reload = if timer == 1 { 1 } else { 1 + self.random.below(3) as u32 };
-            let chained = self.random.pick(&[0, timer::CH]);
-            self.set_up_timer(timer, reload, reload, timer::EN | timer::RS | timer::IE | chained);
-        }
+        self.set_up_many_pulses();
         let few = self.random.below(1000);
         let more = 1 << (35 + self.random.below(29));
-        let cycles = self.random.pick(&[u64::MAX - few, u64::MAX - few, (1 << 32) + few, more + few]);
+        let cycles = self.random.pick(&[u64::MAX, u64::MAX, u64::MAX - few, (1 << 32) + few, more + few]);
         for _ in 0..5 {
             self.push(Call::Advance { cycles });
             self.read_timers();

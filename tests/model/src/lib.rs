@@ -1,6 +1,7 @@
 //! An independent test model of one GR712RC board: six APBUARTs, one GPTIMER unit, their bus
-//! windows, and the script runner. Written from the scope paper (01), its sources and the list of
-//! its readings; quotations in comments are sentences of 01.
+//! windows, and the script runner. Written from the scope paper (01) with the later request 02, No. 3,
+//! its sources and the list of readings; quotations in comments are sentences of 01, and about what
+//! counts down, of No. 3.
 //!
 //! The program holds one machine that starts at reset and changes it by accepted calls only, so no
 //! state of it is ever ill formed and number 9 cannot arise.

@@ -1,4 +1,4 @@
-//! The slow run's time: one cycle after another, by the one-cycle rule as it is written. It shares
+//! The slow run's time: one cycle after another, by the rule as 01 and 02, No. 3 write it. It shares
 //! the registers with module `timer`, but none of its arithmetic.
 
 use crate::timer::{Passed, TimerUnit, CH, EN, IE, IP, RS, TIMERS};
@@ -6,16 +6,13 @@ use crate::timer::{Passed, TimerUnit, CH, EN, IE, IP, RS, TIMERS};
 /// One cycle; tells which timers pulsed.
 pub fn cycle(unit: &mut TimerUnit) -> [bool; TIMERS] {
     let mut pulsed = [false; TIMERS];
-    // "if the prescaler value is 0 there is a tick, and the value becomes the reload, or 0xFFFF if
-    // the reload is 0. Otherwise it falls by 1."
+    // "if the prescaler value is 0 there is a tick [..] Otherwise it falls by 1."
     if unit.scaler > 0 {
         unit.scaler -= 1;
         return pulsed;
     }
+    // No. 3: "A tick now sets the prescaler value to the reload even where that is 0".
     unit.scaler = unit.scaler_reload;
-    if unit.scaler == 0 {
-        unit.scaler = 0xFFFF;
-    }
     // "One tick serves timers 1 to 4 in order."
     let mut previous_underflowed = false;
     for n in 1..=TIMERS {
@@ -27,21 +24,23 @@ pub fn cycle(unit: &mut TimerUnit) -> [bool; TIMERS] {
         if !counts {
             continue;
         }
-        // "the counter falls by 1; a counter at 0 goes to 0xFFFFFFFF"
-        timer.counter = if timer.counter == 0 { 0xFFFF_FFFF } else { timer.counter - 1 };
-        // "If the new number is 0 it is an underflow: IP is set; with RS the counter takes the
-        // reload, without it EN is cleared; with IE there is one pulse, whether or not IP was set
-        // already."
-        if timer.counter == 0 {
-            previous_underflowed = true;
-            timer.control |= IP;
-            if timer.control & RS != 0 {
-                timer.counter = timer.reload;
-            } else {
-                timer.control &= !EN;
-            }
-            pulsed[n - 1] = timer.control & IE != 0;
+        // No. 3: "a counting timer at 0 underflows [..] A counter above 0 only falls."
+        if timer.counter > 0 {
+            timer.counter -= 1;
+            continue;
         }
+        previous_underflowed = true;
+        // No. 3: "with RS it takes the reload, without it the counter stays at 0xFFFFFFFF and EN is
+        // cleared".
+        if timer.control & RS != 0 {
+            timer.counter = timer.reload;
+        } else {
+            timer.counter = 0xFFFF_FFFF;
+            timer.control &= !EN;
+        }
+        // "IP is set; [..] with IE there is one pulse, whether or not IP was set already."
+        timer.control |= IP;
+        pulsed[n - 1] = timer.control & IE != 0;
     }
     pulsed
 }

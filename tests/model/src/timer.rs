@@ -1,5 +1,5 @@
-//! GPTIMER unit: a prescaler and four timers. Time passes by division; module `slow` has the single
-//! cycles.
+//! GPTIMER unit: a prescaler and four timers, counting as 02, No. 3 says. Time passes by division;
+//! module `slow` has the single cycles.
 
 pub const SCALER: u32 = 0x00;
 pub const SCALER_RELOAD: u32 = 0x04;
@@ -47,12 +47,42 @@ pub struct TimerUnit {
     pub timers: [Timer; TIMERS],
 }
 
-/// Counts until a counter reaches 0. From 0 it first "goes to 0xFFFFFFFF", so it takes 2^32 of
-/// them.
-fn counts_to_zero(counter: u32) -> u64 {
-    match counter {
-        0 => 1 << 32,
-        _ => u64::from(counter),
+/// A number that counts down over and over: above 0 it "only falls", at 0 it underflows and takes the
+/// reload. So does a timer with RS in its counts, and one without to its only underflow; and the
+/// prescaler in cycles, where the underflow is the tick.
+#[derive(Clone, Copy)]
+struct Countdown {
+    number: u64,
+    reload: u64,
+}
+
+impl Countdown {
+    fn new(number: impl Into<u64>, reload: impl Into<u64>) -> Countdown {
+        Countdown { number: number.into(), reload: reload.into() }
+    }
+
+    /// Counts to the first underflow: those that bring the number to 0, and the one that finds it
+    /// there.
+    fn left(self) -> u64 {
+        self.number + 1
+    }
+
+    /// Counts from one underflow to the next.
+    fn period(self) -> u64 {
+        self.reload + 1
+    }
+
+    /// The number after some counts, and the underflows in them.
+    fn after(self, counts: u64) -> (u64, u64) {
+        match counts.checked_sub(self.left()) {
+            None => (self.number - counts, 0),
+            Some(rest) => (self.reload - rest % self.period(), 1 + rest / self.period()),
+        }
+    }
+
+    /// The count with the `nth` underflow (`nth` is 1 or more); none if it lies beyond 64 bits.
+    fn count_of_underflow(self, nth: u64) -> Option<u64> {
+        self.period().checked_mul(nth - 1)?.checked_add(self.left())
     }
 }
 
@@ -88,27 +118,29 @@ impl Timer {
         }
     }
 
+    fn countdown(&self) -> Countdown {
+        Countdown::new(self.counter, self.reload)
+    }
+
     /// Is offered a number of counts, takes them if enabled, and returns how often it underflowed.
     fn count(&mut self, counts: u64) -> u64 {
         if !self.has(EN) {
             return 0;
         }
-        let first = counts_to_zero(self.counter);
-        if counts < first {
-            self.counter = self.counter.wrapping_sub(counts as u32);
+        let (counter, underflows) = self.countdown().after(counts);
+        self.counter = counter as u32;
+        if underflows == 0 {
             return 0;
         }
         self.control |= IP;
-        if !self.has(RS) {
-            // The rest of the counts meets a disabled timer.
-            self.counter = 0;
-            self.control &= !EN;
-            return 1;
+        if self.has(RS) {
+            return underflows;
         }
-        let period = counts_to_zero(self.reload);
-        let rest = counts - first;
-        self.counter = self.reload.wrapping_sub((rest % period) as u32);
-        1 + rest / period
+        // "without it the counter stays at 0xFFFFFFFF and EN is cleared": the rest of the counts meets
+        // a disabled timer.
+        self.counter = 0xFFFF_FFFF;
+        self.control &= !EN;
+        1
     }
 
     /// The count at which the `nth` underflow from now comes (`nth` is 1 or more); none if it never
@@ -117,8 +149,7 @@ impl Timer {
         if !self.has(EN) || nth > 1 && !self.has(RS) {
             return None;
         }
-        let periods = counts_to_zero(self.reload).checked_mul(nth - 1)?;
-        counts_to_zero(self.counter).checked_add(periods)
+        self.countdown().count_of_underflow(nth)
     }
 }
 
@@ -187,34 +218,24 @@ impl TimerUnit {
         self.advance(cycles)
     }
 
-    /// Cycles between ticks: a tick sets the value to "the reload, or 0xFFFF if the reload is 0",
-    /// and the next one is in the cycle that finds 0.
-    fn prescaler_period(&self) -> u64 {
-        match self.scaler_reload {
-            0 => 0x1_0000,
-            reload => u64::from(reload) + 1,
-        }
+    /// "A tick now sets the prescaler value to the reload even where that is 0, and then each cycle
+    /// ticks."
+    fn prescaler(&self) -> Countdown {
+        Countdown::new(self.scaler, self.scaler_reload)
     }
 
     /// Lets the prescaler pass a number of cycles and returns the ticks among them.
     fn pass_prescaler(&mut self, cycles: u64) -> u64 {
-        let value = u64::from(self.scaler);
-        if cycles <= value {
-            self.scaler -= cycles as u16;
-            return 0;
-        }
-        let period = self.prescaler_period();
-        let after_first = cycles - (value + 1);
-        self.scaler = (period - 1 - after_first % period) as u16;
-        1 + after_first / period
+        let (value, ticks) = self.prescaler().after(cycles);
+        self.scaler = value as u16;
+        ticks
     }
 
     /// The first cycle, counted from 1, with a pulse; none if there is none within 64 bits.
     fn cycles_to_pulse(&self) -> Option<u64> {
         let with_interrupt = (0..TIMERS).filter(|&index| self.timers[index].has(IE));
         let tick = with_interrupt.filter_map(|index| self.tick_of_underflow(index, 1)).min()?;
-        let first = u64::from(self.scaler) + 1;
-        first.checked_add(self.prescaler_period().checked_mul(tick - 1)?)
+        self.prescaler().count_of_underflow(tick)
     }
 
     /// The tick of a timer's `nth` underflow. A chained timer's k-th count comes with the k-th

@@ -1,4 +1,5 @@
-//! The bench examples of 01 and edge readings of its sentences, through the script interface.
+//! The bench examples of 01, as 02, No. 3 changes them, and edge readings of both papers' sentences,
+//! through the script interface. The numbers are worked out from the papers; comments say how.
 
 use std::io::{self, ErrorKind, Read};
 
@@ -86,23 +87,37 @@ fn timer_examples() {
     check(&[advance(65535), read(UNIT), read(UNIT + 0x40)], &[passed(65535, quiet), value(0), value(0xFFFF)]);
     check(&[advance(65536), read(UNIT + 0x40)], &[passed(65536, quiet), value(0xFFFE)]);
 
+    // A tick each 65536 cycles. 65535 of them bring timer 4 from 0xFFFF to 0, and the next one, in
+    // cycle 65536 * 65536, finds it there.
     let timer4 = [read(UNIT + 0x40), read(UNIT + 0x48)];
-    let last = passed(4_294_901_760, [0, 0, 0, 1]);
-    check(&[&[skip(u64::MAX)], &timer4[..]].concat(), &[last, value(0), value(0x18)]);
-    let before = passed(4_294_901_759, quiet);
-    check(&[&[skip(4_294_901_759)], &timer4[..]].concat(), &[before, value(1), value(0x09)]);
+    let last = passed(4_294_967_296, [0, 0, 0, 1]);
+    check(&[&[skip(u64::MAX)], &timer4[..]].concat(), &[last, value(0xFFFF_FFFF), value(0x18)]);
+    let before = passed(4_294_967_295, quiet);
+    check(&[&[skip(4_294_967_295)], &timer4[..]].concat(), &[before, value(0), value(0x09)]);
 
+    // Ticks in cycles 1, 5, 9 and 13: timer 1 falls to 1, falls to 0, underflows and takes 2, falls
+    // to 1.
     let prescaler = [write(UNIT, 0), write(UNIT + 4, 3)];
     let periodic = [&prescaler[..], &timer(1, 2, 2, 0x0B)].concat();
-    for (cycles, pulses, counter) in [(12, 1, 1), (13, 2, 2)] {
+    for (cycles, pulses, counter) in [(8, 0, 0), (9, 1, 2), (12, 1, 2), (13, 1, 1)] {
         let calls = [&periodic[..], &[advance(cycles), read(UNIT + 0x10)]].concat();
         check(&calls, &[passed(cycles, [pulses, 0, 0, 0]), value(counter)]);
     }
+    // So a limit of 8 is one cycle short of the pulse. The next ones are three ticks of 4 cycles away.
+    for (limit, cycles, pulses) in [(8, 8, 0), (9, 9, 1), (10, 9, 1)] {
+        let calls = [&periodic[..], &[skip(limit)]].concat();
+        check(&calls, &[passed(cycles, [pulses, 0, 0, 0])]);
+    }
+    let calls = [&periodic[..], &[skip(100), skip(11), skip(1), skip(12)]].concat();
+    let pulse = [1, 0, 0, 0];
+    check(&calls, &[passed(9, pulse), passed(11, quiet), passed(1, pulse), passed(12, pulse)]);
 
+    // Timer 1 underflows at ticks 3, 6, 9 and 12. These bring timer 2 from 3 to 2, 1 and 0, and find it
+    // there; tick 12 is in cycle 1 + 11 * 4.
     let chained = [&prescaler[..], &timer(1, 2, 2, 0x03), &timer(2, 3, 3, 0x2B)].concat();
     let calls = [&chained[..], &[skip(100), read(UNIT + 0x28)]].concat();
-    check(&calls, &[passed(21, [0, 1, 0, 0]), value(0x3B)]);
-    check(&[&chained[..], &[skip(20)]].concat(), &[passed(20, quiet)]);
+    check(&calls, &[passed(45, [0, 1, 0, 0]), value(0x3B)]);
+    check(&[&chained[..], &[skip(44)]].concat(), &[passed(44, quiet)]);
 
     // Control 0x1B after the first pulse.
     for (written, left) in [(0x0B, 0x1B), (0x1B, 0x0B)] {
@@ -184,26 +199,129 @@ fn timer_readings() {
     // LD loads whatever EN is.
     let calls = [&timer(2, 1, 9, 4)[..], &[read(UNIT + 0x20), read(UNIT + 0x28)]].concat();
     check(&calls, &[value(9), value(0)]);
-    // Prescaler reload 0 is a period of 65536, but value 0 ticks in the next cycle.
-    let prescaler = [write(UNIT, 0), write(UNIT + 4, 0)];
-    let calls = [&prescaler[..], &timer(1, 2, 2, 0x0B), &[skip(1 << 20), read(UNIT)]].concat();
-    check(&calls, &[passed(65537, [1, 0, 0, 0]), value(0xFFFF)]);
     // Timer 1 ignores CH; a limit of 0 passes nothing; a pulse at the limit counts. (Timer 4, which
-    // runs at reset, is switched off.)
+    // runs at reset, is switched off.) The ticks are in cycle 1 and, counted from there, in each
+    // second one: (2^64 - 1) / 2 of them, rounded down.
     let prescaler = [write(UNIT, 0), write(UNIT + 4, 1), write(UNIT + 0x48, 0)];
-    let calls = [&prescaler[..], &timer(1, 1, 1, 0x2B), &[skip(0), skip(1), advance(u64::MAX)]].concat();
+    let calls = [&prescaler[..], &timer(1, 0, 0, 0x2B), &[skip(0), skip(1), advance(u64::MAX)]].concat();
     check(&calls, &[passed(0, quiet), passed(1, [1, 0, 0, 0]), passed(u64::MAX, [(1 << 63) - 1, 0, 0, 0])]);
-    // Reload 0 with RS: 2^32 counts to the next underflow. A one-shot stays at 0 and underflows
-    // once.
-    let calls = [&prescaler[..], &timer(1, 1, 0, 0x0B), &[skip(1), skip(u64::MAX)]].concat();
-    check(&calls, &[passed(1, [1, 0, 0, 0]), passed(1 << 33, [1, 0, 0, 0])]);
-    let calls =
-        [&prescaler[..], &timer(1, 1, 5, 0x09), &[advance(u64::MAX), skip(u64::MAX), read(UNIT + 0x10)]]
-            .concat();
-    check(&calls, &[passed(u64::MAX, [1, 0, 0, 0]), passed(u64::MAX, quiet), value(0)]);
     // An underflow without IE sets IP and ends no skip.
     let calls = [&prescaler[..], &timer(1, 1, 1, 0x03), &[skip(1000), read(UNIT + 0x18)]].concat();
     check(&calls, &[passed(1000, quiet), value(0x13)]);
+}
+
+#[test]
+fn prescaler_with_reload_0() {
+    let quiet = [0; 4];
+    // From value 0 each cycle ticks: the third one finds timer 1 at 0, and then each third.
+    let prescaler = [write(UNIT, 0), write(UNIT + 4, 0)];
+    let times = [skip(1 << 20), read(UNIT), advance(9), read(UNIT + 0x10)];
+    let calls = [&prescaler[..], &timer(1, 2, 2, 0x0B), &times].concat();
+    check(&calls, &[passed(3, [1, 0, 0, 0]), value(0), passed(9, [3, 0, 0, 0]), value(2)]);
+    // From value 5 the first tick is in cycle 6, and then each cycle ticks.
+    let prescaler = [write(UNIT, 5), write(UNIT + 4, 0)];
+    let times = [advance(5), read(UNIT), skip(100), read(UNIT), skip(100), advance(10), read(UNIT)];
+    let calls = [&prescaler[..], &timer(1, 0, 0, 0x0B), &times].concat();
+    let one = passed(1, [1, 0, 0, 0]);
+    let ten = passed(10, [10, 0, 0, 0]);
+    check(&calls, &[passed(5, quiet), value(0), one, value(0), one, ten, value(0)]);
+    check(&[&prescaler[..], &timer(1, 0, 0, 0x0B), &[skip(100)]].concat(), &[passed(6, [1, 0, 0, 0])]);
+}
+
+/// Ticks in cycles 1, 3, 5 and so on, and timer 4 off.
+const ODD_TICKS: [Call; 3] = [
+    Call::Write { size: 4, address: UNIT, value: 0 },
+    Call::Write { size: 4, address: UNIT + 4, value: 1 },
+    Call::Write { size: 4, address: UNIT + 0x48, value: 0 },
+];
+
+#[test]
+fn timers_at_0() {
+    let pulse = [1, 0, 0, 0];
+    // With reload 0 and RS: tick 1 brings counter 1 to 0, and each later one underflows, from cycle 3
+    // on.
+    let times = [skip(100), skip(100), advance(10), read(UNIT + 0x10), read(UNIT + 0x18)];
+    let calls = [&ODD_TICKS[..], &timer(1, 1, 0, 0x0B), &times].concat();
+    check(&calls, &[passed(3, pulse), passed(2, pulse), passed(10, [5, 0, 0, 0]), value(0), value(0x1B)]);
+    // A counter written 0 by hand: the next tick, after that of cycle 1, is in cycle 3.
+    let times = [advance(1), write(UNIT + 0x10, 0), skip(100), read(UNIT + 0x10)];
+    let calls = [&ODD_TICKS[..], &timer(1, 5, 6, 0x0B), &times].concat();
+    check(&calls, &[passed(1, [0; 4]), number(0), passed(2, pulse), value(6)]);
+    // LD together with EN loads a reload of 0.
+    let calls = [&ODD_TICKS[..], &timer(1, 9, 0, 0x0F), &[skip(100), read(UNIT + 0x18)]].concat();
+    check(&calls, &[passed(1, pulse), value(0x1B)]);
+    // A timer before it that underflows at each tick: timer 2 falls to 1, to 0, and underflows at tick
+    // 3, in cycle 5; the next three ticks take 6 cycles.
+    let calls =
+        [&ODD_TICKS[..], &timer(1, 0, 0, 0x03), &timer(2, 2, 2, 0x2B), &[skip(100), skip(100)]].concat();
+    check(&calls, &[passed(5, [0, 1, 0, 0]), passed(6, [0, 1, 0, 0])]);
+}
+
+#[test]
+fn one_shots() {
+    let (quiet, pulse) = ([0; 4], [1, 0, 0, 0]);
+    let state = [read(UNIT + 0x10), read(UNIT + 0x18)];
+    // It underflows once, does not take the reload, and is disabled.
+    let times = [advance(u64::MAX), skip(u64::MAX)];
+    let calls = [&ODD_TICKS[..], &timer(1, 1, 5, 0x09), &times, &state].concat();
+    let rest = [value(0xFFFF_FFFF), value(0x18)];
+    check(&calls, &[&[passed(u64::MAX, pulse), passed(u64::MAX, quiet)], &rest[..]].concat());
+    // Enabled again after its tick in cycle 3: ticks in cycles 2, 4 and so on. 2^32 - 1 of them bring
+    // 0xFFFFFFFF to 0, and the one in cycle 2^33 finds it there. IP was kept.
+    let again = [skip(u64::MAX), write(UNIT + 0x18, 0x09), skip((1 << 33) - 1)];
+    let calls = [&ODD_TICKS[..], &timer(1, 1, 5, 0x09), &again, &state, &[skip(u64::MAX)], &state].concat();
+    let before = [passed(3, pulse), number(0), passed((1 << 33) - 1, quiet), value(0), value(0x19)];
+    check(&calls, &[&before[..], &[passed(1, pulse)], &rest].concat());
+    // A few counts after it is enabled again, by single cycles too.
+    let again = [skip(100), read(UNIT + 0x10), write(UNIT + 0x18, 0x19), advance(6)];
+    let calls = [&ODD_TICKS[..], &timer(1, 0, 5, 0x09), &again, &state].concat();
+    let entries =
+        [passed(1, pulse), value(0xFFFF_FFFF), number(0), passed(6, quiet), value(0xFFFF_FFFC), value(0x09)];
+    check(&calls, &entries);
+
+    // Its one underflow, in cycle 3, drives the follower once; enabled again at 0, once more.
+    let chain = [timer(1, 1, 0, 0x01), timer(2, 0, 7, 0x2B)].concat();
+    let follower = read(UNIT + 0x20);
+    let times = [skip(100), advance(1000), follower, write(UNIT + 0x10, 0), write(UNIT + 0x18, 0x01)];
+    let calls = [&ODD_TICKS[..], &chain, &times, &[advance(1000), follower], &state].concat();
+    let driven = [passed(3, [0, 1, 0, 0]), passed(1000, quiet), value(7), number(0), number(0)];
+    let driven_again = [passed(1000, quiet), value(6), value(0xFFFF_FFFF), value(0x10)];
+    check(&calls, &[&driven[..], &driven_again].concat());
+    // A follower that needs two counts waits for ever.
+    let calls = [&ODD_TICKS[..], &timer(1, 1, 0, 0x01), &timer(2, 1, 7, 0x2B), &[skip(u64::MAX), follower]];
+    check(&calls.concat(), &[passed(u64::MAX, quiet), value(0)]);
+}
+
+#[test]
+fn pulses_at_each_cycle() {
+    let prescaler = [write(UNIT, 0), write(UNIT + 4, 0)];
+    let all = [timer(1, 0, 0, 0x0B), timer(2, 0, 0, 0x2B), timer(3, 0, 0, 0x2B), timer(4, 0, 0, 0x0B)];
+    let times = [advance(u64::MAX), skip(u64::MAX), advance(u64::MAX), read(UNIT + 0x10)];
+    let calls = [&prescaler[..], &all.concat(), &times].concat();
+    let most = passed(u64::MAX, [u64::MAX; 4]);
+    check(&calls, &[most, passed(1, [1; 4]), most, value(0)]);
+    // Timer 2 has 2^64 - 1 counts for its periods of 2, which leaves one count that brings it to 0;
+    // timer 3 for its periods of 3, which leaves none, for 2^64 - 1 is 3 * 6148914691236517205; and
+    // timer 4 as many counts as timer 3 has underflows.
+    let all = [timer(1, 0, 0, 0x0B), timer(2, 1, 1, 0x2B), timer(3, 2, 2, 0x0B), timer(4, 0, 0, 0x2B)];
+    let times = [advance(u64::MAX), read(UNIT + 0x20), read(UNIT + 0x30)];
+    let third = 6_148_914_691_236_517_205;
+    let calls = [&prescaler[..], &all.concat(), &times].concat();
+    check(&calls, &[passed(u64::MAX, [u64::MAX, (1 << 63) - 1, third, third]), value(0), value(2)]);
+}
+
+#[test]
+fn a_pulse_at_the_largest_limit() {
+    // Periods of 2^16 cycles, 2^32 ticks and 2^16 counts: from the reloads, timer 2 first pulses in cycle
+    // 2^64, and with the prescaler's value one less, a cycle earlier.
+    let chain = [&timer(1, u32::MAX, u32::MAX, 0x03)[..], &timer(2, 0xFFFF, 0xFFFF, 0x2B)].concat();
+    let times = [write(UNIT + 0x48, 0), skip(u64::MAX), skip(u64::MAX)];
+    let pulse = [0, 1, 0, 0];
+    let calls = [&chain[..], &times].concat();
+    check(&calls, &[passed(u64::MAX, [0; 4]), passed(1, pulse)]);
+    // The second pulse is another 2^64 cycles away.
+    let calls = [&chain[..], &[write(UNIT, 0xFFFE)], &times, &[skip(2)]].concat();
+    check(&calls, &[passed(u64::MAX, pulse), passed(u64::MAX, [0; 4]), passed(1, pulse)]);
 }
 
 #[test]
@@ -212,9 +330,10 @@ fn files() {
     let log = [b"\x41\x50\x4C\x00\x01\x00\x00\x00\x00\x00\x00\x01\x44", &[0; 40][..]].concat();
     assert_eq!(log_of(&whole[..], Mode::Arithmetic), log);
 
-    // Every place of a log record: a byte emitted at level 1, and a skip's cycles and pulses.
+    // Every place of a log record: a byte emitted at level 1, and a skip's cycles and pulses. Prescaler
+    // value 0x102 ticks in cycle 0x103, which finds timer 4 at 0.
     let calls =
-        [write(CONTROL, 10), write(DATA, 0x3141), write(UNIT, 0x102), write(UNIT + 0x40, 1), skip(0x10203)];
+        [write(CONTROL, 10), write(DATA, 0x3141), write(UNIT, 0x102), write(UNIT + 0x40, 0), skip(0x10203)];
     let log = log_of(&script_of(&calls)[..], Mode::Arithmetic);
     let (emission, last) = (&log[5 + 48..][..48], &log[5 + 4 * 48..]);
     assert_eq!(emission, [&[0, 1, 0x41, 1][..], &[0; 44]].concat());

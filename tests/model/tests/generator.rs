@@ -6,7 +6,7 @@ use std::process::{Command, Output, Stdio};
 use model::board::Board;
 use model::generator::{self, Family, FAMILIES, SHORT_TOTAL};
 use model::script::{execute, Call, Entry, Mode, CALL_LENGTH, SCRIPT_HEADER};
-use model::timer::{TimerUnit, CH, EN, IE, RS};
+use model::timer::{Timer, TimerUnit, CH, EN, IE, IP, RS};
 
 /// The script of a seed is fixed for one state of the generator, which no slip is to change: FNV-1a of
 /// the first 256 scripts.
@@ -16,7 +16,7 @@ fn scripts_are_fixed() {
     let hash = bytes.fold(0xCBF2_9CE4_8422_2325_u64, |hash, byte| {
         (hash ^ u64::from(byte)).wrapping_mul(0x0100_0000_01B3)
     });
-    assert_eq!(hash, 0xC2E9_E600_00AB_0E73);
+    assert_eq!(hash, 0xAF7D_6E45_D15C_813E);
 }
 
 #[test]
@@ -130,26 +130,29 @@ fn streams_go_round() {
 
 /// How far away the first pulse of four timers in a chain is, in cycles.
 fn distance(unit: &TimerUnit) -> f64 {
-    let counts = |number: u32| if number == 0 { 2.0_f64.powi(32) } else { f64::from(number) };
     let controls = unit.timers.each_ref().map(|timer| timer.control & (EN | RS | IE | CH));
     if controls != [EN | RS, EN | RS | CH, EN | RS | CH, EN | RS | IE | CH] {
         return 0.0;
     }
     let mut nth = 1.0;
     for timer in unit.timers.iter().rev() {
-        nth = counts(timer.counter) + (nth - 1.0) * counts(timer.reload);
+        nth = f64::from(timer.counter) + 1.0 + (nth - 1.0) * (f64::from(timer.reload) + 1.0);
     }
-    nth * if unit.scaler_reload == 0 { 65536.0 } else { f64::from(unit.scaler_reload) + 1.0 }
+    nth * (f64::from(unit.scaler_reload) + 1.0)
 }
 
 #[test]
 fn chains_are_long() {
     let (mut farthest, mut pulses, mut pulses_in_all, mut waits) = (0.0_f64, 0, 0, 0);
+    // Skips to a pulse in the last cycle of the largest limit.
+    let mut to_the_last = 0;
     for seed in seeds(Family::Chains, 500) {
         let (mut in_all, mut waited) = (0, 0);
         follow(seed, |call, entry, unit| match call {
             Call::Skip { .. } | Call::Advance { .. } => {
                 farthest = farthest.max(distance(unit));
+                let at_the_last = entry.passed.cycles == u64::MAX && entry.passed.pulses != [0; 4];
+                to_the_last += u32::from(at_the_last && matches!(call, Call::Skip { .. }));
                 pulses = pulses.max(entry.passed.pulses[0]);
                 in_all += u128::from(entry.passed.pulses[0]);
                 waited += 1;
@@ -161,7 +164,56 @@ fn chains_are_long() {
         waits = waits.max(waited);
     }
     assert_eq!(farthest, 2.0_f64.powi(144));
-    assert!(pulses > 1 << 32 && pulses_in_all > u64::MAX.into() && waits > 256);
+    assert!(pulses == u64::MAX && pulses_in_all > u64::MAX.into() && waits > 256 && to_the_last > 1);
+}
+
+/// Skips end with the cycle of the next pulse, or with the one before it or after it.
+#[test]
+fn skips_are_aimed_at_pulses() {
+    for family in [Family::Timers, Family::Short] {
+        let mut aimed = [0; 3];
+        for seed in seeds(family, 500) {
+            follow(seed, |call, _, unit| {
+                let Call::Skip { limit } = call else { return };
+                let next = unit.clone().skip(u64::MAX);
+                if next.pulses != [0; 4] && next.cycles > 1 && limit.abs_diff(next.cycles) <= 1 {
+                    aimed[(limit - (next.cycles - 1)) as usize] += 1;
+                }
+            });
+        }
+        assert!(aimed.iter().all(|&count| count >= 20), "{family:?} {aimed:?}");
+    }
+}
+
+/// Time passes in all the states that matter.
+#[test]
+fn timers_are_in_rare_states() {
+    let is = |timer: &Timer, bits: u32| timer.control & bits == bits;
+    let at_0 = |timer: &Timer| is(timer, EN) && timer.counter == 0;
+    let underflows_always = |timer: &Timer| at_0(timer) && is(timer, RS) && timer.reload == 0;
+    let one_shot = |timer: &Timer| is(timer, EN) && !is(timer, RS);
+    let enabled_again = |timer: &Timer| is(timer, EN | IP) && timer.counter == u32::MAX;
+    for family in [Family::Timers, Family::Short] {
+        let mut seen = [0; 8];
+        for seed in seeds(family, 500) {
+            follow(seed, |_, Entry { passed, .. }, TimerUnit { scaler, scaler_reload, timers, .. }| {
+                let states = [
+                    *scaler_reload == 0 && *scaler == 0,
+                    *scaler_reload == 0 && *scaler > 0,
+                    timers.iter().any(at_0),
+                    timers.iter().any(underflows_always),
+                    timers.iter().any(enabled_again),
+                    timers.windows(2).any(|pair| underflows_always(&pair[0]) && is(&pair[1], EN | CH)),
+                    timers.windows(2).any(|pair| one_shot(&pair[0]) && is(&pair[1], EN | CH)),
+                    passed.cycles > 1 && passed.pulses.contains(&passed.cycles),
+                ];
+                if passed.cycles > 0 {
+                    seen.iter_mut().zip(states).for_each(|(count, state)| *count += u32::from(state));
+                }
+            });
+        }
+        assert!(seen.iter().all(|&count| count >= 5), "{family:?} {seen:?}");
+    }
 }
 
 fn generate(arguments: &[&str]) -> Output {

@@ -18,7 +18,7 @@ fn counter(random: &mut Random) -> u32 {
         0 => 0,
         1 => u32::MAX - random.below(2) as u32,
         2 => random.word(),
-        _ => 1 + random.below(5) as u32,
+        _ => random.below(5) as u32,
     }
 }
 
@@ -49,7 +49,10 @@ fn short_spans() {
 }
 
 fn any_span(random: &mut Random) -> u64 {
-    random.next_u64() >> random.below(64)
+    match random.below(8) {
+        0 => u64::MAX - random.below(3),
+        _ => random.next_u64() >> random.below(64),
+    }
 }
 
 /// One cycle more than a span of any length is that span and then a single cycle. With

@@ -1,22 +1,21 @@
 -- What the code does with a span, and with the time of a pulse, is the direct form. Assumes nothing.
-use Prim.Native.Nat.{ℕ, zero, suc, _+_, _-_, _*_, _/_, _%_, _^_, _<_, _≤_, min, compare·suc-suc}
+use Prim.Native.Nat.{ℕ, zero, suc, _-_, _^_, _<_, _≤_, min, compare·suc-suc}
 use mathlib.Core.Path.{_≡_, refl, sym, _∙_}
 use mathlib.Core.Bool.{true, false, cond}
 use lib.Dec.{ltb}
 use mathlib.Core.List.{List, [], _∷_}
 use native.Mathlib.Omega.{arith}
-use native.Mathlib.Nat.{suc-sub-suc, sub-zero, mod-lt, le-div-iff-mul-le, div-lt-iff-lt-mul}
-use native.Mathlib.Numerals.{add-one, one-add}
+use native.Mathlib.Nat.{suc-sub-suc, sub-zero}
 use lib.ListN.{length}
 use borrow.Author.Tests.{lt-ltb, le-ltb, ltb-true, ne-eqb}
-use Rattle.devices.specs.Cases.{chosen, same}
-use Rattle.devices.specs.Gptimer.{place, valueAfterTick, withScaler, withTimers, noPulses, cycle, advance}
+use Rattle.devices.specs.Cases.{same}
+use Rattle.devices.specs.Gptimer.{place, withScaler, withTimers, noPulses, cycle, advance}
 use Rattle.devices.specs.Gptimer.Span.{pass, most, anyTick, countedDown, Tells}
-use Rattle.devices.specs.Gptimer.Direct.{stands, endsAt, onceAt, countsLeft, countedTimer, servedTimer}
+use Rattle.devices.specs.Gptimer.Direct.{periods, left, endsAt, countedTimer, servedTimer}
 use Rattle.devices.specs.Gptimer.Direct.{ticked, elapsed, due, dueTick, firstTick, tickCycle}
+use Rattle.devices.specs.Gptimer.Direct.Countdown.{stands-first, stands-past}
 use Rattle.devices.specs.Gptimer.Direct.Time.{served-none, servedPulses-none, advance-elapsed}
 use Rattle.devices.specs.Gptimer.Direct.Due.{four, skip-advance, due-later, first-later}
-use Rattle.devices.proofs.gptimer.Counting.{underflows-fit}
 use Rattle.devices.specs.declared.gptimer.Timer.{Timer}
 use Rattle.devices.specs.declared.gptimer.Served.{Served}
 use Rattle.devices.specs.declared.gptimer.Gptimer.{Gptimer}
@@ -62,11 +61,12 @@ tick-later u j small = omega arith
 
 -- a span before the next tick
 counted-down : (u : Gptimer) (n : ℕ) → length (u .timers) ≡ 4 → n ≤ u .scaler → advance n u ≡ countedDown n (u .scaler - n) u
-unfolding elapsed stands
+unfolding elapsed
 counted-down u n whole l =
     rw (
       advance-elapsed n u,
-      lt-ltb n (suc (u .scaler)) (omega arith),
+      stands-first (u .scaler) (u .sreload) (λ (i : ℕ). 0) (λ q (i : ℕ). suc q) n l,
+      stands-first (u .scaler) (u .sreload) (λ (i : ℕ). i) (λ q (i : ℕ). i) n l,
       served-none (u .timers),
       servedPulses-none (u .timers),
       four (λ ts. noPulses ts ≡ 0 ∷ 0 ∷ 0 ∷ 0 ∷ []) (λ a b c d. refl) (u .timers) whole,
@@ -101,12 +101,22 @@ module _ (u : Gptimer) (n : ℕ) (t : BeforeTick) (tells : Tells (Cycles n) u t)
 
 -- a span past it
 pub past-tick :
-    (x : Elapsed) (u : Gptimer) (n r : ℕ) → r ≡ valueAfterTick (u .sreload) → u .scaler < n →
-    x ≡ ticked n (1 + (n - (u .scaler + 1)) / (r + 1)) (withScaler (r - (n - (u .scaler + 1)) % (r + 1)) u) →
-    x ≡ advance n u
-unfolding elapsed stands
-past-tick x u n r er l e =
-    rw (advance-elapsed n u, le-ltb n (suc (u .scaler)) (omega arith), ← er) (simp (add-one, one-add) at e)
+    (x : Elapsed) (u : Gptimer) (n m w : ℕ) → u .scaler < n → m ≡ suc (periods (u .scaler) (u .sreload) n) →
+    w ≡ left (u .scaler) (u .sreload) n → x ≡ ticked n m (withScaler w u) → x ≡ advance n u
+unfolding elapsed
+past-tick x u n m w l em ew e =
+    rw (
+      advance-elapsed n u,
+      stands-past (u .scaler) (u .sreload) (λ (i : ℕ). 0) (λ q (i : ℕ). suc q) n l,
+      stands-past (u .scaler) (u .sreload) (λ (i : ℕ). i) (λ q (i : ℕ). i) n l,
+      ← em,
+      ← ew,
+    )
+    e
+
+-- where the prescaler then stands fits into the code's word
+pub left-small : (w v r k : ℕ) → w ≡ left v r k → r < 2 ^ 16 → w < 2 ^ 16
+left-small w v r k e small = omega arith
 
 -- the cycles that a span comes to: a skip goes to the next pulse or to its limit, whichever is earlier
 module _ (u : Gptimer) (span : Span) (n : ℕ) where
@@ -119,51 +129,14 @@ module _ (u : Gptimer) (span : Span) (n : ℕ) where
   to-pulse limit d e whole small due earlier =
       rw (e, skip-advance limit u whole (omega arith), ← due, ← earlier) refl
 
--- the ticks fit into the code's words, and so does a remainder by one more than r
-pub ticks-fit : (n v p : ℕ) → v < n → n < 2 ^ 64 → 1 + (n - (v + 1)) / p < 2 ^ 64
-ticks-fit n v p l small = underflows-fit n (v + 1) p (omega arith) (omega arith) small
-
-pub rest-within : (x r : ℕ) → x % (r + 1) ≤ r
-rest-within x r = let l : x % (r + 1) < r + 1 = mod-lt x (omega arith) in omega arith
-
--- the j-th end of a countdown, where it is a 64-bit number and where it is not
-module _ (f p j : ℕ) (small : f < 2 ^ 64) (pos : 0 < p) where
-  ends-left : j - 1 ≤ (2 ^ 64 - 1 - f) / p → (j - 1) * p ≤ 2 ^ 64 - 1 - f
-  ends-left l = le-div-iff-mul-le pos .0 l
-
-  pub periods-fit : j - 1 ≤ (2 ^ 64 - 1 - f) / p → (j - 1) * p < 2 ^ 64
-  periods-fit l = omega (arith, ends-left l)
-
-  pub end-fits : j - 1 ≤ (2 ^ 64 - 1 - f) / p → f + (j - 1) * p < 2 ^ 64
-  end-fits l = omega (arith, ends-left l)
-
-  pub end-within : j - 1 ≤ (2 ^ 64 - 1 - f) / p → f + (j - 1) * p ≡ endsAt f p j
-  unfolding endsAt
-  end-within l = omega (arith, ends-left l)
-
-  pub end-beyond : (2 ^ 64 - 1 - f) / p < j - 1 → 2 ^ 64 - 1 ≡ endsAt f p j
-  unfolding endsAt
-  end-beyond l = let far : 2 ^ 64 - 1 - f < (j - 1) * p = div-lt-iff-lt-mul pos .0 l in omega arith
-
--- a timer's first underflow
-pub due-first :
-    (t : Timer) (j f : ℕ) → t .en ≡ true → j ≡ 1 → f ≡ countsLeft (t .counter) → f ≤ 2 ^ 32 → f ≡ due j t
-unfolding due endsAt onceAt
-due-first t j f on one e l =
-    rw (on, one, ← e) (chosen (λ b x. f ≡ x) (t .rs) _ _ (omega arith) refl)
-
--- of a countdown whose numbers a call answered
-pub end-of : (r f g p q j : ℕ) → f ≡ g → p ≡ q → r ≡ endsAt f p j → r ≡ endsAt g q j
-end-of r f g p q j e h i = rw (← e, ← h) i
-
 -- the first pulse of all
 pub first-after : (ts : List Timer) (m : ℕ) → length ts ≡ 4 → m ≡ firstTick ts → 0 < m
 first-after ts m whole e = rw e (first-later ts whole)
 
 pub cycle-of :
-    (u : Gptimer) (r s m : ℕ) → s ≡ valueAfterTick (u .sreload) → m ≡ firstTick (u .timers) →
-    r ≡ endsAt (u .scaler + 1) (s + 1) m → r ≡ tickCycle u (firstTick (u .timers))
-cycle-of u r s m es em e = rw (← es, ← em, ← add-one (u .scaler), ← add-one s) e
+    (u : Gptimer) (r m : ℕ) → m ≡ firstTick (u .timers) → r ≡ endsAt (u .scaler) (u .sreload) m →
+    r ≡ tickCycle u (firstTick (u .timers))
+cycle-of u r m em e = rw (← em) e
 
 -- one step up the chain
 due-tick-at :

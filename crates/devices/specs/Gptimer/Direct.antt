@@ -6,43 +6,46 @@ pub mod Due
 use Prim.Native.Nat.{ℕ, zero, suc, _+_, _-_, _*_, _/_, _%_, _^_, min}
 use mathlib.Core.Bool.{false, true, cond}
 use mathlib.Core.List.{List, [], _∷_}
-use lib.Dec.{eqb, ltb}
-use Rattle.devices.specs.Gptimer.{fall, valueAfterTick, withScaler, withTimers, withCounter, withEn, withIp, place}
+use lib.Dec.{eqb, leb}
+use Rattle.devices.specs.Gptimer.{withScaler, withTimers, withCounter, withEn, withIp, place}
 use Rattle.devices.specs.declared.gptimer.Timer.{Timer}
 use Rattle.devices.specs.declared.gptimer.Gptimer.{Gptimer}
 use Rattle.devices.specs.declared.gptimer.Elapsed.{Elapsed}
 use Rattle.devices.specs.declared.gptimer.Served.{Served}
 
--- A countdown that ends at its d-th count and then at every p-th, in k counts: what it comes to. `first` is given the counts
--- so far, where it has not ended; `again` the whole periods since its first end and the counts since its last one.
+-- A countdown that stands at v and starts again from r: it ends at its (v + 1)-th count, the one that finds it at 0, and then
+-- at every (r + 1)-th. After k counts of which one or more ended it: the whole periods since its first end, and where it
+-- stands.
+abbrev pub periods : ℕ → ℕ → ℕ → ℕ
+periods v r k = (k - suc v) / suc r
+
+abbrev pub left : ℕ → ℕ → ℕ → ℕ
+left v r k = r - (k - suc v) % suc r
+
+-- What it comes to after k counts, by where it stands: `first` where it has not ended, else `again`, which is given the whole
+-- periods too.
 unfoldable pub stands : {A : Type 0} → ℕ → ℕ → (ℕ → A) → (ℕ → ℕ → A) → ℕ → A
-stands d p first again k = cond (ltb k d) (first k) (again ((k - d) / p) ((k - d) % p))
+stands v r first again k = cond (leb k v) (first (v - k)) (again (periods v r k) (left v r k))
 
--- how often it ends, and how often one that stops at its first end does, whatever period is put there
+-- where it stands, how often it has ended, and how often one has that stops at its first end
+abbrev pub value : ℕ → ℕ → ℕ → ℕ
+value v r k = stands v r (λ i. i) (λ q i. i) k
+
 abbrev pub ends : ℕ → ℕ → ℕ → ℕ
-ends d p k = stands d p (λ i. 0) (λ q i. suc q) k
+ends v r k = stands v r (λ i. 0) (λ q i. suc q) k
 
-abbrev pub once : ℕ → ℕ → ℕ
-once d k = stands d 1 (λ i. 0) (λ q i. 1) k
+abbrev pub once : ℕ → ℕ → ℕ → ℕ
+once v r k = stands v r (λ i. 0) (λ q i. 1) k
 
 -- The count at which each ends for the j-th time. Where that is no 64-bit number, or never, `never` stands for it.
 abbrev pub never : ℕ
 never = 2 ^ 64 - 1
 
 unfoldable pub endsAt : ℕ → ℕ → ℕ → ℕ
-endsAt d p j = min (d + (j - 1) * p) never
+endsAt v r j = min (suc v + (j - 1) * suc r) never
 
 unfoldable pub onceAt : ℕ → ℕ → ℕ
-onceAt d j = cond (eqb j 1) d never
-
--- how many counts a counter is away from its underflow
-unfoldable pub countsLeft : ℕ → ℕ
-countsLeft counter = cond (eqb counter 0) (2 ^ 32) counter
-
--- a counter after k falls
-unfoldable pub falls : ℕ → ℕ → ℕ
-falls zero counter = counter
-falls (suc k) counter = falls k (fall counter)
+onceAt v j = cond (eqb j 1) (suc v) never
 
 -- A timer in k counts: how often it underflows, and the timer after them.
 pub record Counted : Type 0 where
@@ -53,24 +56,19 @@ abbrev pub idle : Timer → Counted
 idle t = record { underflows = 0; timer = t }
 
 abbrev pub fallen : Timer → ℕ → Counted
-fallen t k = record { underflows = 0; timer = withCounter (falls k (t .counter)) t }
+fallen t counter = record { underflows = 0; timer = withCounter counter t }
 
+-- once it has underflowed: by RS it restarts, or comes to rest
 abbrev pub restarted : Timer → ℕ → ℕ → Counted
-restarted t q k = record { underflows = suc q; timer = withIp true (withCounter (falls k (t .reload)) t) }
+restarted t q counter = record { underflows = suc q; timer = withIp true (withCounter counter t) }
 
--- where a one-shot comes to rest
-abbrev pub atRest : ℕ
-atRest = 0
-
-abbrev pub stopped : Timer → ℕ → ℕ → Counted
-stopped t q k = record { underflows = 1; timer = withIp true (withEn false (withCounter atRest t)) }
+abbrev pub stopped : Timer → Counted
+stopped t = record { underflows = 1; timer = withIp true (withEn false (withCounter 0xFFFFFFFF t)) }
 
 unfoldable pub counted : ℕ → Timer → Counted
 counted k t =
     cond (t .en)
-    (cond (t .rs)
-    (stands (countsLeft (t .counter)) (countsLeft (t .reload)) (fallen t) (restarted t) k)
-    (stands (countsLeft (t .counter)) 1 (fallen t) (stopped t) k))
+    (stands (t .counter) (t .reload) (fallen t) (λ q i. cond (t .rs) (restarted t q i) (stopped t)) k)
     (idle t)
 
 -- the pulses of a timer that underflows so often
@@ -105,15 +103,11 @@ servedPulses ticks before (t ∷ ts) =
     servedPulses ticks (counted (countsIn ticks before t) t .underflows) ts
 
 -- the prescaler in n cycles
-abbrev pub period : Gptimer → ℕ
-period u = suc (valueAfterTick (u .sreload))
-
 abbrev pub ticksIn : ℕ → Gptimer → ℕ
-ticksIn n u = ends (suc (u .scaler)) (period u) n
+ticksIn n u = ends (u .scaler) (u .sreload) n
 
 abbrev pub scalerAfter : ℕ → Gptimer → ℕ
-scalerAfter n u =
-    stands (suc (u .scaler)) (period u) (λ (k : ℕ). u .scaler - k) (λ q (k : ℕ). valueAfterTick (u .sreload) - k) n
+scalerAfter n u = value (u .scaler) (u .sreload) n
 
 abbrev pub ticked : ℕ → ℕ → Gptimer → Elapsed
 ticked cycles ticks u =
@@ -128,12 +122,7 @@ elapsed n u = ticked n (ticksIn n u) (withScaler (scalerAfter n u) u)
 
 -- the count at which a timer underflows for the j-th time
 unfoldable pub due : ℕ → Timer → ℕ
-due j t =
-    cond (t .en)
-    (cond (t .rs)
-    (endsAt (countsLeft (t .counter)) (countsLeft (t .reload)) j)
-    (onceAt (countsLeft (t .counter)) j))
-    never
+due j t = cond (t .en) (cond (t .rs) (endsAt (t .counter) (t .reload) j) (onceAt (t .counter) j)) never
 
 -- the tick at which timer n underflows for the j-th time: where it is chained its counts are underflows of timer n-1, and
 -- before timer 1 stands the tick itself
@@ -150,4 +139,4 @@ firstTick ts = min (min (pulseTick ts 0) (pulseTick ts 1)) (min (pulseTick ts 2)
 
 -- the cycle of the j-th tick
 abbrev pub tickCycle : Gptimer → ℕ → ℕ
-tickCycle u j = endsAt (suc (u .scaler)) (period u) j
+tickCycle u j = endsAt (u .scaler) (u .sreload) j

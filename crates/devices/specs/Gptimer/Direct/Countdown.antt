@@ -1,5 +1,5 @@
 -- A countdown in one count more, and when it ends. Assumes nothing.
-use Prim.Native.Nat.{ℕ, suc, _+_, _-_, _*_, _/_, _%_, _<_, _≤_, min}
+use Prim.Native.Nat.{ℕ, suc, _+_, _-_, _*_, _%_, _<_, _≤_, min}
 use mathlib.Core.Path.{_≡_, refl, _∙_}
 use mathlib.Core.Bool.{cond, _||_}
 use native.Mathlib.Nat.{div-eq-of-lt, div-eq-sub-div, mod-eq-of-lt, mod-eq-sub-mod, le-div-iff-mul-le, div-le-self}
@@ -7,52 +7,53 @@ use native.Mathlib.Nat.{suc-sub-suc, sub-zero, le-trans}
 use native.Mathlib.Numerals.{add-one}
 use native.Mathlib.Decide.{decLt, ℕ-discrete}
 use native.Mathlib.Omega.{arith}
-use lib.Dec.{leb, ltb, eqb, leb·suc-suc}
-use borrow.Author.Tests.{lt-ltb, le-ltb, le-leb, lt-leb, eq-eqb, ne-eqb}
+use lib.Dec.{leb, eqb, leb·suc-suc}
+use borrow.Author.Tests.{le-leb, lt-leb, eq-eqb, ne-eqb}
 use Rattle.devices.specs.Cases.{chosen}
-use Rattle.devices.specs.Gptimer.Direct.{stands, ends, once, endsAt, onceAt, never}
+use Rattle.devices.specs.Gptimer.Direct.{periods, left, stands, ends, once, endsAt, onceAt, never}
 
 module _ {A : Type 0} where
-  -- before its first count
-  pub stands-none : (d p : ℕ) (f : ℕ → A) (g : ℕ → ℕ → A) → 0 < d → stands d p f g 0 ≡ f 0
+  -- while it has not ended, before its first count, and once it has ended
+  pub stands-first : (v r : ℕ) (f : ℕ → A) (g : ℕ → ℕ → A) (k : ℕ) → k ≤ v → stands v r f g k ≡ f (v - k)
   unfolding stands
-  stands-none d p f g pos = rw (lt-ltb 0 d pos) refl
+  stands-first v r f g k l = rw (le-leb k v l) refl
 
-  -- a count that does not end it
-  pub stands-fall :
-      (d p : ℕ) (f f' : ℕ → A) (g : ℕ → ℕ → A) (k : ℕ) → f (suc k) ≡ f' k →
-      stands (suc d) p f g (suc k) ≡ stands d p f' g k
-  unfolding stands
-  stands-fall d p f f' g k e = rw (leb·suc-suc (suc k) d, suc-sub-suc k d, e) refl
+  pub stands-none : (v r : ℕ) (f : ℕ → A) (g : ℕ → ℕ → A) → stands v r f g 0 ≡ f v
+  stands-none v r f g = rw (stands-first v r f g 0 (omega arith), sub-zero v) refl
 
-  -- the count that ends it
-  pub stands-again :
-      (p : ℕ) (f : ℕ → A) (g : ℕ → ℕ → A) (k : ℕ) → 0 < p →
-      stands 1 p f g (suc k) ≡ stands p p (g 0) (λ q. g (suc q)) k
-  unfolding stands
-  stands-again p f g k pos =
-      rw (le-ltb (suc k) 1 (omega arith), suc-sub-suc k 0, sub-zero k)
-      (elim (decLt k p) [
-        | yes l ↦ rw (lt-ltb k p l, div-eq-of-lt l, mod-eq-of-lt l) refl
-        | no l ↦
-            let m : k % p ≡ (k - p) % p = mod-eq-sub-mod (omega arith) in
-            rw (le-ltb k p (omega arith), div-eq-sub-div {n = k} pos (omega arith), add-one, m) refl
-      ])
-
-  -- once it has ended
   pub stands-past :
-      (d p : ℕ) (f : ℕ → A) (g : ℕ → ℕ → A) (k : ℕ) → d ≤ k →
-      stands d p f g k ≡ g ((k - d) / p) ((k - d) % p)
+      (v r : ℕ) (f : ℕ → A) (g : ℕ → ℕ → A) (k : ℕ) → v < k → stands v r f g k ≡ g (periods v r k) (left v r k)
   unfolding stands
-  stands-past d p f g k l = rw (le-ltb k d l) refl
+  stands-past v r f g k l = rw (lt-leb k v l) refl
+
+  -- a count above 0, and one at 0
+  pub stands-fall : (v r : ℕ) (f : ℕ → A) (g : ℕ → ℕ → A) (k : ℕ) → stands (suc v) r f g (suc k) ≡ stands v r f g k
+  unfolding stands
+  stands-fall v r f g k = rw (leb·suc-suc k v, suc-sub-suc v k, suc-sub-suc k (suc v)) refl
+
+  pub stands-again :
+      (r : ℕ) (f : ℕ → A) (g : ℕ → ℕ → A) (k : ℕ) →
+      stands 0 r f g (suc k) ≡ stands r r (g 0) (λ q. g (suc q)) k
+  unfolding stands
+  stands-again r f g k =
+      rw (lt-leb (suc k) 0 (omega arith), suc-sub-suc k 0, sub-zero k)
+      (elim (decLt r k) [
+        | yes l ↦
+            let pos : 0 < suc r = omega arith in
+            let m : k % suc r ≡ (k - suc r) % suc r = mod-eq-sub-mod (omega arith) in
+            rw (lt-leb k r l, div-eq-sub-div {n = k} pos (omega arith), add-one, m) refl
+        | no l ↦
+            let small : k < suc r = omega arith in
+            rw (le-leb k r (omega arith), div-eq-of-lt small, mod-eq-of-lt small) refl
+      ])
 
   -- what is read off it
   pub stands-map :
-      {B : Type 0} (h : A → B) (d p : ℕ) (f : ℕ → A) (g : ℕ → ℕ → A) (k : ℕ) →
-      h (stands d p f g k) ≡ stands d p (λ i. h (f i)) (λ q i. h (g q i)) k
+      {B : Type 0} (h : A → B) (v r : ℕ) (f : ℕ → A) (g : ℕ → ℕ → A) (k : ℕ) →
+      h (stands v r f g k) ≡ stands v r (λ i. h (f i)) (λ q i. h (g q i)) k
   unfolding stands
-  stands-map h d p f g k =
-      chosen (λ b x. h x ≡ cond b (h (f k)) (h (g ((k - d) / p) ((k - d) % p)))) (ltb k d) _ _ refl refl
+  stands-map h v r f g k =
+      chosen (λ b x. h x ≡ cond b (h (f (v - k))) (h (g (periods v r k) (left v r k)))) (leb k v) _ _ refl refl
 
 -- Something happens m times in k steps, the j-th time at step `time j`; at `never` stands what is not seen in fewer steps.
 pub record Due (k m : ℕ) (time : ℕ → ℕ) : Type 0 where
@@ -98,52 +99,52 @@ not-due k small =
       by = λ j l. rw (lt-leb j 0 l, lt-leb never k small) refl;
     }
 
-module _ (k d : ℕ) (small : k < never) (pos : 0 < d) where
-  pub ends-due : (p : ℕ) → 0 < p → Due k (ends d p k) (endsAt d p)
+module _ (k v r : ℕ) (small : k < never) where
+  pub ends-due : Due k (ends v r k) (endsAt v r)
   unfolding stands endsAt
-  ends-due p again =
-      elim (decLt k d) [
+  ends-due =
+      elim (decLt v k) [
         | yes l ↦
-            rw (lt-ltb k d l)
+            rw (lt-leb k v l)
             (record {
-              few = omega arith;
-              later = λ j q. omega arith;
-              by = λ j q. leb-both j 0 (min (d + (j - 1) * p) never) k (λ r. omega arith) (λ r. omega arith);
-            })
-        | no l ↦
-            rw (le-ltb k d (omega arith))
-            (record {
-              few = omega (arith, div-le-self (k - d) p);
+              few = omega (arith, div-le-self (k - suc v) (suc r));
               later = λ j q. omega arith;
               by =
                   λ j q.
-                  leb-both j (suc ((k - d) / p)) (min (d + (j - 1) * p) never) k
-                  (λ r. let m : (j - 1) * p ≤ k - d = le-div-iff-mul-le again .0 (omega arith) in omega arith)
-                  (λ r. let m : j - 1 ≤ (k - d) / p = le-div-iff-mul-le again .1 (omega arith) in omega arith);
+                  leb-both j (suc (periods v r k)) (min (suc v + (j - 1) * suc r) never) k
+                  (λ m. let n : (j - 1) * suc r ≤ k - suc v = le-div-iff-mul-le (omega arith) .0 (omega arith) in omega arith)
+                  (λ m. let n : j - 1 ≤ periods v r k = le-div-iff-mul-le (omega arith) .1 (omega arith) in omega arith);
+            })
+        | no l ↦
+            rw (le-leb k v (omega arith))
+            (record {
+              few = omega arith;
+              later = λ j q. omega arith;
+              by = λ j q. leb-both j 0 (min (suc v + (j - 1) * suc r) never) k (λ m. omega arith) (λ m. omega arith);
             })
       ]
 
   -- its first end is due as that of the other, and it has no second
-  pub once-due : Due k (once d k) (onceAt d)
+  pub once-due : Due k (once v r k) (onceAt v)
   unfolding stands onceAt
   once-due =
-      elim (decLt k d) [
+      elim (decLt v k) [
         | yes l ↦
-            rw (lt-ltb k d l)
-            (record { few = omega arith; later = later; by = by 0 (omega arith) (λ r. omega arith) (λ r. omega arith) })
+            rw (lt-leb k v l)
+            (record { few = omega arith; later = later; by = by 1 (omega arith) (λ m. omega arith) (λ m. omega arith) })
         | no l ↦
-            rw (le-ltb k d (omega arith))
-            (record { few = omega arith; later = later; by = by 1 (omega arith) (λ r. omega arith) (λ r. omega arith) })
+            rw (le-leb k v (omega arith))
+            (record { few = omega arith; later = later; by = by 0 (omega arith) (λ m. omega arith) (λ m. omega arith) })
       ]
     where
-      later : (j : ℕ) → 0 < j → 0 < cond (eqb j 1) d never
-      later j q = elim (ℕ-discrete j 1) [ yes e ↦ rw (eq-eqb j 1 e) pos | no e ↦ rw (ne-eqb j 1 e) (omega arith) ]
+      later : (j : ℕ) → 0 < j → 0 < cond (eqb j 1) (suc v) never
+      later j q = chosen (λ b x. 0 < x) (eqb j 1) _ _ (omega arith) (omega arith)
 
       by :
-          (m : ℕ) → m ≤ 1 → (1 ≤ m → d ≤ k) → (d ≤ k → 1 ≤ m) → (j : ℕ) → 0 < j →
-          leb j m ≡ leb (cond (eqb j 1) d never) k
+          (m : ℕ) → m ≤ 1 → (1 ≤ m → suc v ≤ k) → (suc v ≤ k → 1 ≤ m) → (j : ℕ) → 0 < j →
+          leb j m ≡ leb (cond (eqb j 1) (suc v) never) k
       by m most f g j q =
           elim (ℕ-discrete j 1) [
-            | yes e ↦ rw (eq-eqb j 1 e, e) (leb-both 1 m d k f g)
-            | no e ↦ rw (ne-eqb j 1 e) (leb-both j m never k (λ r. omega arith) (λ r. omega arith))
+            | yes e ↦ rw (eq-eqb j 1 e, e) (leb-both 1 m (suc v) k f g)
+            | no e ↦ rw (ne-eqb j 1 e) (leb-both j m never k (λ n. omega arith) (λ n. omega arith))
           ]

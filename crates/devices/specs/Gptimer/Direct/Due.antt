@@ -11,12 +11,12 @@ use lib.Dec.{leb, ltb}
 use lib.ListN.{length}
 use borrow.Author.Tests.{le-leb, lt-leb, leb-false}
 use Rattle.devices.specs.Gptimer.{place, anyPulse, advance, skip}
-use Rattle.devices.specs.Gptimer.Direct.{stands, never, endsAt, onceAt, countsLeft, Counted, idle, fallen, restarted}
+use Rattle.devices.specs.Gptimer.Direct.{stands, never, endsAt, onceAt, Counted, idle, fallen, restarted}
 use Rattle.devices.specs.Gptimer.Direct.{stopped, counted, countsIn, underflowPulses, servedPulses, ticksIn}
-use Rattle.devices.specs.Gptimer.Direct.{period, elapsed, due, dueTick, pulseTick, firstTick, tickCycle}
+use Rattle.devices.specs.Gptimer.Direct.{elapsed, due, dueTick, pulseTick, firstTick, tickCycle}
 use Rattle.devices.specs.Gptimer.Direct.Countdown.{Due, due-through, not-due, ends-due, once-due, earlier}
 use Rattle.devices.specs.Gptimer.Direct.Countdown.{stands-map}
-use Rattle.devices.specs.Gptimer.Direct.Time.{left-pos, servedPulses-none, advance-elapsed}
+use Rattle.devices.specs.Gptimer.Direct.Time.{servedPulses-none, advance-elapsed}
 use Rattle.devices.specs.Gptimer.Pulses.{any-none}
 use Rattle.devices.specs.Gptimer.Laws.{advance-cycles, least-by, skip-least, least-unique}
 use Rattle.devices.specs.declared.gptimer.Timer.{Timer}
@@ -25,22 +25,18 @@ use Rattle.devices.specs.declared.gptimer.Gptimer.{Gptimer}
 -- A timer's underflows in its own counts.
 pub counts-due : (k : ℕ) (t : Timer) → k < never → Due k (counted k t .underflows) (λ j. due j t)
 unfolding counted due
-counts-due k t small =
-    by-flags (countsLeft (t .counter)) (countsLeft (t .reload)) (left-pos (t .counter)) (left-pos (t .reload))
-    (t .en) (t .rs)
+counts-due k t small = by-flags (t .counter) (t .reload) (t .en) (t .rs)
   where
     by-flags :
-        (d p : ℕ) → 0 < d → 0 < p → (en rs : Bool) →
+        (v r : ℕ) (en rs : Bool) →
         Due k
-        (cond en
-        (cond rs (stands d p (fallen t) (restarted t) k) (stands d 1 (fallen t) (stopped t) k))
-        (idle t) .underflows)
-        (λ j. cond en (cond rs (endsAt d p j) (onceAt d j)) never)
-    by-flags d p first again false rs = not-due k small
-    by-flags d p first again true true =
-        rw (stands-map (λ (r : Counted). r .underflows) d p (fallen t) (restarted t) k) (ends-due k d small first p again)
-    by-flags d p first again true false =
-        rw (stands-map (λ (r : Counted). r .underflows) d 1 (fallen t) (stopped t) k) (once-due k d small first)
+        (cond en (stands v r (fallen t) (λ q i. cond rs (restarted t q i) (stopped t)) k) (idle t) .underflows)
+        (λ j. cond en (cond rs (endsAt v r j) (onceAt v j)) never)
+    by-flags v r false rs = not-due k small
+    by-flags v r true true =
+        rw (stands-map (λ (x : Counted). x .underflows) v r (fallen t) (restarted t) k) (ends-due k v r small)
+    by-flags v r true false =
+        rw (stands-map (λ (x : Counted). x .underflows) v r (fallen t) (λ q i. stopped t) k) (once-due k v r small)
 
 pub due-later : (j : ℕ) (t : Timer) → 0 < j → 0 < due j t
 due-later j t l = counts-due 0 t (omega arith) .later j l
@@ -71,7 +67,7 @@ ticks-due ticks (suc n) ts small =
 
 -- The ticks in some cycles.
 pub prescaler-due : (k : ℕ) (u : Gptimer) → k < never → Due k (ticksIn k u) (tickCycle u)
-prescaler-due k u small = ends-due k (suc (u .scaler)) small (omega arith) (period u) (omega arith)
+prescaler-due k u small = ends-due k (u .scaler) (u .sreload) small
 
 -- The first pulse of the timer at place n, and of all four.
 pulse-due :

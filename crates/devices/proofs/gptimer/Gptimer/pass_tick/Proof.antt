@@ -1,12 +1,8 @@
 -- A span past the next tick. Assumes nothing.
 use borrow.Author.Needs.{needs}
-use Rattle.devices.proofs.gptimer.Spans.{past-tick, ticks-fit, rest-within}
+use Rattle.devices.proofs.gptimer.Spans.{past-tick, left-small}
 use Rattle.devices.proofs.gptimer.Gptimer.pass_tick.Statement.{statement}
 use Rattle.devices.proofs.gptimer.Gptimer.pass_tick.Tie as tie
 
 pub pass-tick-spec : {M : Type 1} → statement M
-pass-tick-spec =
-    tie.close
-    (tie.spec (λ c. search needs) (λ c. search needs) (λ c. search needs) (λ c κs. search needs) (λ c. search needs)
-    (λ c. search needs) (λ c. search rest-within) (λ c. search needs) (λ c. search needs) (λ c. search ticks-fit)
-    (λ c κs. search needs) (λ c. search past-tick))
+pass-tick-spec = tie.close (tie.spec (λ c. search needs) (λ c. search needs) (λ c κs. search needs) (λ c. search left-small) (λ c κs. search needs) (λ c. search past-tick))
