@@ -426,14 +426,14 @@ example(
     (read(TIMER4), entry(value=0xFFFE)),
 )
 example(
-    "02: skip with the largest limit from reset",
+    "01, 02: skip with the largest limit from reset",
     (skip(LARGEST), entry(cycles=4294967296, pulses=(0, 0, 0, 1))),
     (read(TIMER4), entry(value=0xFFFFFFFF)),
     (read(TIMER4 + 8), entry(value=0x18)),
     (skip(LARGEST), entry(cycles=LARGEST)),
 )
 example(
-    "01: one cycle less",
+    "01, 02: one cycle less",
     (skip(4294967295), entry(cycles=4294967295)),
     (read(TIMER4), entry(value=0)),
     (read(TIMER4 + 8), entry(value=0x09)),
@@ -447,7 +447,7 @@ TWO_COUNTS = (
     (write(TIMER1 + 4, 2), WRITTEN),
 )
 example(
-    "01: advance 12 with prescaler 0, reload 3, timer 1 at 2; then control 0x1B",
+    "01, 02: advance 12 with prescaler 0, reload 3, timer 1 at 2; then control 0x1B",
     *TWO_COUNTS,
     (write(TIMER1 + 8, 0x0B), WRITTEN),
     (advance(12), entry(cycles=12, pulses=(1, 0, 0, 0))),
@@ -459,7 +459,7 @@ example(
     (read(TIMER1 + 8), entry(value=0x0B)),
 )
 example(
-    "01: advance 13, as before",
+    "01, 02: advance 13, as before",
     *TWO_COUNTS,
     (write(TIMER1 + 8, 0x0B), WRITTEN),
     (advance(13), entry(cycles=13, pulses=(1, 0, 0, 0))),
@@ -473,13 +473,13 @@ CHAINED = (
     (write(TIMER2 + 8, 0x2B), WRITTEN),
 )
 example(
-    "01: skip 100 with timer 2 chained",
+    "01, 02: skip 100 with timer 2 chained",
     *CHAINED,
     (skip(100), entry(cycles=45, pulses=(0, 1, 0, 0))),
     (read(TIMER2 + 8), entry(value=0x3B)),
 )
 example(
-    "01: skip 20 with timer 2 chained, and on to the cycle before the pulse",
+    "01, 02: skip 20 with timer 2 chained, and on to the cycle before the pulse",
     *CHAINED,
     (skip(20), entry(cycles=20)),
     (skip(24), entry(cycles=24)),

@@ -31,28 +31,29 @@ fn chosen(which: u8) -> Elapsed {
     }
 }
 
-// Four timers that restart, each chained to the one before it; only the last has interrupts.
+// Four timers that restart, with periods of 2, 3, 5 and 7 counts, each chained to the one before it; only the last has
+// interrupts.
 fn chain(sreload: u16) -> Gptimer {
     let mut unit = Gptimer::reset_state();
     unit.sreload = sreload;
     unit.timers = [
+        timer(1, true, false),
         timer(2, true, false),
-        timer(3, true, false),
-        timer(5, true, false),
-        timer(7, true, true),
+        timer(4, true, false),
+        timer(6, true, true),
     ];
     unit
 }
 
-// Four timers that restart and interrupt, none chained.
+// Four timers that restart and interrupt, with periods of 200, 300, 500 and 700 ticks, none chained.
 fn periodic() -> Gptimer {
     let mut unit = Gptimer::reset_state();
     unit.sreload = 3;
     unit.timers = [
-        timer(200, false, true),
-        timer(300, false, true),
-        timer(500, false, true),
-        timer(700, false, true),
+        timer(199, false, true),
+        timer(299, false, true),
+        timer(499, false, true),
+        timer(699, false, true),
     ];
     unit
 }

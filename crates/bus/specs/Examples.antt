@@ -1,6 +1,6 @@
 -- Paper 01, "Bench examples": those with *, shown from the definitions in one checked table. Each line has what the
--- definitions give and what the paper says. The timers' numbers are those of paper 02, No. 3: "01's counting line, prescaler
--- line and examples change".
+-- definitions give and what the paper says. By paper 02, No. 3, "01's counting line, prescaler line and examples change": it
+-- gives three of the timers' new numbers, and the others follow from its rule, as the comments say.
 use Prim.Native.Nat.{ℕ, _+_}
 use mathlib.Core.Path.{_≡_, refl}
 use mathlib.Core.List.{List, [], _∷_, _++_, map}

@@ -1,9 +1,9 @@
 -- The timer unit (GPTIMER): paper 01, section "Timer unit", with what "Windows" and "Refusal numbers" say of an offset
--- without a register and "The slow run" of advances and skips, and paper 02, No. 3, which replaces 01's rule of counting
--- and of the prescaler's reload 0. One definition a rule, under the sentence that it states; those that others use stand
--- before them. Every field of the code's structs is a register or a bit of one, so the definitions are on those structs.
--- A call of the unit is never refused: "A case that the chosen types exclude needs no test", and the code's types exclude
--- each ill-formed state.
+-- without a register and "The slow run" of advances and skips, and paper 02, No. 3, which replaces what 01 says a count does
+-- to the counter and to EN, and a tick to the prescaler where the reload is 0. One definition a rule, under the sentence that
+-- it states; those that others use stand before them. Every field of the code's structs is a register or a bit of one, so
+-- the definitions are on those structs. A call of the unit is never refused: "A case that the chosen types exclude needs no
+-- test", and the code's types exclude each ill-formed state.
 pub mod Span
 pub mod Pulses
 pub mod Laws

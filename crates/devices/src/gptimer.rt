@@ -102,7 +102,7 @@ impl Timer {
     // Chain: the timer counts the underflows of the one before it; timer 1 ignores it.
     pub const CH: u32 = 0x20;
 
-    // Where the counter comes to rest that underflows without restart.
+    // Where an underflow without restart leaves the counter.
     pub const AT_REST: u32 = 0xFFFF_FFFF;
 
     // Timer 4 at reset: its counter and reload, and its control, EN and IE.
@@ -507,12 +507,12 @@ impl Gptimer {
     }
 }
 
-// The prescaler and each timer are a countdown that stands at `value` and starts again from `reload`: it ends at the count that
-// finds it at 0, its (value + 1)-th, and then at every (reload + 1)-th. What it comes to in more counts than `value`:
+// The prescaler, and a timer with RS, is a countdown that stands at `value` and starts again from `reload`: it ends at the count
+// that finds it at 0, its (value + 1)-th, and then at every (reload + 1)-th. What it comes to in more counts than `value`:
 fn restart(value: u32, reload: u32, counts: u64) -> Restarted
     requires { ⌜ value < counts ⌝ }
     ensures ends { λ r. ⌜ r .ends ≡ suc (direct.periods value reload counts) ⌝ }
-    ensures stands { λ r. ⌜ r .value ≡ direct.left value reload counts ⌝ }
+    ensures stands { λ r. ⌜ r .value ≡ direct.standing value reload counts ⌝ }
 {
     let past = counts - (value as u64 + 1);
     let period = reload as u64 + 1;
@@ -528,6 +528,10 @@ fn ends_at(value: u32, reload: u32, j: u64) -> u64
     ensures { λ r. ⌜ r ≡ direct.endsAt value reload j ⌝ }
 {
     let first = value as u64 + 1;
+    // The most frequent question, answered without a division.
+    if j == 1 {
+        return first;
+    }
     let period = reload as u64 + 1;
     let again = j - 1;
     if (u64::MAX - first) / period < again {

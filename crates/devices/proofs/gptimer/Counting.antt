@@ -4,7 +4,7 @@ use mathlib.Core.Path.{_≡_, refl, ap, sym, _∙_}
 use mathlib.Core.Bool.{true, false}
 use Rattle.devices.specs.Cases.{same}
 use Rattle.devices.specs.Gptimer.{withCounter, withIp, withEn}
-use Rattle.devices.specs.Gptimer.Direct.{periods, left, counted, underflowPulses, countsIn, countedTimer, servedTimer}
+use Rattle.devices.specs.Gptimer.Direct.{periods, standing, stopped, counted, underflowPulses, countsIn, countedTimer, servedTimer}
 use Rattle.devices.specs.Gptimer.Direct.Countdown.{stands-first, stands-past}
 use Rattle.devices.proofs.gptimer.Countdown.{no-wrap}
 use Rattle.devices.specs.declared.gptimer.Timer.{Timer}
@@ -34,7 +34,7 @@ module _ (k : ℕ) (t : Timer) where
 
   pub restarting :
       (n w q : ℕ) → t .en ≡ true → t .rs ≡ true → t .counter < k →
-      n ≡ suc (periods (t .counter) (t .reload) k) → w ≡ left (t .counter) (t .reload) k → q ≡ underflowPulses t n →
+      n ≡ suc (periods (t .counter) (t .reload) k) → w ≡ standing (t .counter) (t .reload) k → q ≡ underflowPulses t n →
       Counts n q (withIp true (withCounter w t))
   unfolding counted
   restarting n w q on rs l en ew e =
@@ -42,7 +42,7 @@ module _ (k : ℕ) (t : Timer) where
 
   pub stopping :
       (q : ℕ) → t .en ≡ true → t .rs ≡ false → t .counter < k → q ≡ underflowPulses t 1 →
-      Counts 1 q (withIp true (withEn false (withCounter 0xFFFFFFFF t)))
+      Counts 1 q (stopped t .timer)
   unfolding counted
   stopping q on rs l e =
       counts-to 1 q _ e (rw (on, stands-past (t .counter) (t .reload) _ _ k l, rs) refl)

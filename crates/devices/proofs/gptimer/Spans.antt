@@ -11,7 +11,7 @@ use borrow.Author.Tests.{lt-ltb, le-ltb, ltb-true, ne-eqb}
 use Rattle.devices.specs.Cases.{same}
 use Rattle.devices.specs.Gptimer.{place, withScaler, withTimers, noPulses, cycle, advance}
 use Rattle.devices.specs.Gptimer.Span.{pass, most, anyTick, countedDown, Tells}
-use Rattle.devices.specs.Gptimer.Direct.{periods, left, endsAt, countedTimer, servedTimer}
+use Rattle.devices.specs.Gptimer.Direct.{periods, standing, endsAt, countedTimer, servedTimer}
 use Rattle.devices.specs.Gptimer.Direct.{ticked, elapsed, due, dueTick, firstTick, tickCycle}
 use Rattle.devices.specs.Gptimer.Direct.Countdown.{stands-first, stands-past}
 use Rattle.devices.specs.Gptimer.Direct.Time.{served-none, servedPulses-none, advance-elapsed}
@@ -65,8 +65,8 @@ unfolding elapsed
 counted-down u n whole l =
     rw (
       advance-elapsed n u,
-      stands-first (u .scaler) (u .sreload) (λ (i : ℕ). 0) (λ q (i : ℕ). suc q) n l,
-      stands-first (u .scaler) (u .sreload) (λ (i : ℕ). i) (λ q (i : ℕ). i) n l,
+      stands-first (u .scaler) (u .sreload) _ _ n l,
+      stands-first (u .scaler) (u .sreload) _ _ n l,
       served-none (u .timers),
       servedPulses-none (u .timers),
       four (λ ts. noPulses ts ≡ 0 ∷ 0 ∷ 0 ∷ 0 ∷ []) (λ a b c d. refl) (u .timers) whole,
@@ -102,21 +102,21 @@ module _ (u : Gptimer) (n : ℕ) (t : BeforeTick) (tells : Tells (Cycles n) u t)
 -- a span past it
 pub past-tick :
     (x : Elapsed) (u : Gptimer) (n m w : ℕ) → u .scaler < n → m ≡ suc (periods (u .scaler) (u .sreload) n) →
-    w ≡ left (u .scaler) (u .sreload) n → x ≡ ticked n m (withScaler w u) → x ≡ advance n u
+    w ≡ standing (u .scaler) (u .sreload) n → x ≡ ticked n m (withScaler w u) → x ≡ advance n u
 unfolding elapsed
 past-tick x u n m w l em ew e =
     rw (
       advance-elapsed n u,
-      stands-past (u .scaler) (u .sreload) (λ (i : ℕ). 0) (λ q (i : ℕ). suc q) n l,
-      stands-past (u .scaler) (u .sreload) (λ (i : ℕ). i) (λ q (i : ℕ). i) n l,
+      stands-past (u .scaler) (u .sreload) _ _ n l,
+      stands-past (u .scaler) (u .sreload) _ _ n l,
       ← em,
       ← ew,
     )
     e
 
 -- where the prescaler then stands fits into the code's word
-pub left-small : (w v r k : ℕ) → w ≡ left v r k → r < 2 ^ 16 → w < 2 ^ 16
-left-small w v r k e small = omega arith
+pub standing-small : (w v r k : ℕ) → w ≡ standing v r k → r < 2 ^ 16 → w < 2 ^ 16
+standing-small w v r k e small = omega arith
 
 -- the cycles that a span comes to: a skip goes to the next pulse or to its limit, whichever is earlier
 module _ (u : Gptimer) (span : Span) (n : ℕ) where

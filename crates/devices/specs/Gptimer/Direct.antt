@@ -19,15 +19,15 @@ use Rattle.devices.specs.declared.gptimer.Served.{Served}
 abbrev pub periods : ℕ → ℕ → ℕ → ℕ
 periods v r k = (k - suc v) / suc r
 
-abbrev pub left : ℕ → ℕ → ℕ → ℕ
-left v r k = r - (k - suc v) % suc r
+abbrev pub standing : ℕ → ℕ → ℕ → ℕ
+standing v r k = r - (k - suc v) % suc r
 
 -- What it comes to after k counts, by where it stands: `first` where it has not ended, else `again`, which is given the whole
 -- periods too.
 unfoldable pub stands : {A : Type 0} → ℕ → ℕ → (ℕ → A) → (ℕ → ℕ → A) → ℕ → A
-stands v r first again k = cond (leb k v) (first (v - k)) (again (periods v r k) (left v r k))
+stands v r first again k = cond (leb k v) (first (v - k)) (again (periods v r k) (standing v r k))
 
--- where it stands, how often it has ended, and how often one has that stops at its first end
+-- where it stands, how often it has ended, and how often one has that stops at its first end, whatever r is
 abbrev pub value : ℕ → ℕ → ℕ → ℕ
 value v r k = stands v r (λ i. i) (λ q i. i) k
 

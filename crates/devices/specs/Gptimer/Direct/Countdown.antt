@@ -10,7 +10,7 @@ use native.Mathlib.Omega.{arith}
 use lib.Dec.{leb, eqb, leb·suc-suc}
 use borrow.Author.Tests.{le-leb, lt-leb, eq-eqb, ne-eqb}
 use Rattle.devices.specs.Cases.{chosen}
-use Rattle.devices.specs.Gptimer.Direct.{periods, left, stands, ends, once, endsAt, onceAt, never}
+use Rattle.devices.specs.Gptimer.Direct.{periods, standing, stands, ends, once, endsAt, onceAt, never}
 
 module _ {A : Type 0} where
   -- while it has not ended, before its first count, and once it has ended
@@ -22,7 +22,7 @@ module _ {A : Type 0} where
   stands-none v r f g = rw (stands-first v r f g 0 (omega arith), sub-zero v) refl
 
   pub stands-past :
-      (v r : ℕ) (f : ℕ → A) (g : ℕ → ℕ → A) (k : ℕ) → v < k → stands v r f g k ≡ g (periods v r k) (left v r k)
+      (v r : ℕ) (f : ℕ → A) (g : ℕ → ℕ → A) (k : ℕ) → v < k → stands v r f g k ≡ g (periods v r k) (standing v r k)
   unfolding stands
   stands-past v r f g k l = rw (lt-leb k v l) refl
 
@@ -53,7 +53,7 @@ module _ {A : Type 0} where
       h (stands v r f g k) ≡ stands v r (λ i. h (f i)) (λ q i. h (g q i)) k
   unfolding stands
   stands-map h v r f g k =
-      chosen (λ b x. h x ≡ cond b (h (f (v - k))) (h (g (periods v r k) (left v r k)))) (leb k v) _ _ refl refl
+      chosen (λ b x. h x ≡ cond b (h (f (v - k))) (h (g (periods v r k) (standing v r k)))) (leb k v) _ _ refl refl
 
 -- Something happens m times in k steps, the j-th time at step `time j`; at `never` stands what is not seen in fewer steps.
 pub record Due (k m : ℕ) (time : ℕ → ℕ) : Type 0 where

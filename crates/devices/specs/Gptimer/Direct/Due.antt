@@ -1,6 +1,6 @@
 -- When a timer underflows: it has done so j times exactly from the time on at which it does so for the j-th time. These
 -- laws hold of times below `never`. Assumes nothing.
-use Prim.Native.Nat.{ℕ, zero, suc, _-_, _<_, _≤_, min}
+use Prim.Native.Nat.{ℕ, zero, suc, _<_, _≤_, min}
 use mathlib.Core.Path.{_≡_, refl, ap, sym, _∙_}
 use mathlib.Core.Bool.{Bool, true, false, cond, or-false, or-assoc}
 use mathlib.Core.List.{List, [], _∷_}

@@ -1,5 +1,5 @@
 -- The direct form is what single counts, ticks and cycles do, one after another. Assumes nothing.
-use Prim.Native.Nat.{ℕ, zero, suc, _+_, _-_}
+use Prim.Native.Nat.{ℕ, zero, suc, _+_}
 use mathlib.Core.Path.{_≡_, refl, sym}
 use mathlib.Core.Bool.{Bool, true, false, cond, not, _&&_, _||_}
 use mathlib.Core.List.{List, [], _∷_}
@@ -141,9 +141,9 @@ unfolding elapsed cycle cyclePulses
 elapsed-suc n zero r df ts =
     let m : ℕ = ends r r n in
     rw (
-      stands-again r (λ (i : ℕ). 0) (λ q (i : ℕ). suc q) n,
+      stands-again r _ _ n,
       ← stands-map suc r r (λ (i : ℕ). 0) (λ q (i : ℕ). suc q) n,
-      stands-again r (λ (i : ℕ). i) (λ q (i : ℕ). i) n,
+      stands-again r _ _ n,
       servedPulses-suc m m true ts,
       served-suc m m true ts,
     )
@@ -154,8 +154,8 @@ elapsed-suc n (suc v) r df ts =
       ne-eqb (suc v) 0 (λ e. omega arith),
       suc-sub-suc v 0,
       sub-zero v,
-      stands-fall v r (λ (i : ℕ). 0) (λ q (i : ℕ). suc q) n,
-      stands-fall v r (λ (i : ℕ). i) (λ q (i : ℕ). i) n,
+      stands-fall v r _ _ n,
+      stands-fall v r _ _ n,
       add-none m m ts,
     )
     refl
@@ -164,8 +164,8 @@ pub advance-elapsed : (n : ℕ) (u : Gptimer) → advance n u ≡ elapsed n u
 unfolding advance elapsed
 advance-elapsed zero u =
     rw (
-      stands-none (u .scaler) (u .sreload) (λ (i : ℕ). 0) (λ q (i : ℕ). suc q),
-      stands-none (u .scaler) (u .sreload) (λ (i : ℕ). i) (λ q (i : ℕ). i),
+      stands-none (u .scaler) (u .sreload) _ _,
+      stands-none (u .scaler) (u .sreload) _ _,
       served-none (u .timers),
       servedPulses-none (u .timers),
     )

@@ -8,4 +8,5 @@ use Rattle.devices.proofs.gptimer.Gptimer.next_pulse.Tie as tie
 pub next-pulse-spec : {M : Type 1} → statement M
 next-pulse-spec =
     tie.close
-    (tie.spec (λ c. search needs) (λ c. search needs) (λ c κs. search needs) (λ c κs. search (length-of, first-after, needs)) (λ c. search cycle-of))
+    (tie.spec (λ c. search needs) (λ c. search needs) (λ c κs. search needs)
+    (λ c κs. search (length-of, first-after, needs)) (λ c. search cycle-of))
