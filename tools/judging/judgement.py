@@ -8,7 +8,7 @@ import sys
 import tempfile
 import threading
 import time
-from concurrent.futures import ThreadPoolExecutor
+from concurrent.futures import ThreadPoolExecutor, wait
 from typing import NamedTuple
 
 from judging import report, runs, scripts
@@ -20,6 +20,14 @@ from judging.verdicts import FAILED, NOT_JUDGED, Judge, Verdict
 PROGRAMS = ("apsrun", "aplcmp")
 # So many scripts on which the simulator exceeds its time, or that cannot be judged, and the others are not tried.
 MOST_OVER_TIME = MOST_NOT_JUDGED = 10
+
+
+def outcome(work):
+    """The result of some work, waited for in short turns: a signal that comes as a wait begins, or that another thread gets, is
+    seen only when this thread runs again."""
+    while not work.done():
+        wait([work], timeout=0.2)
+    return work.result()
 
 
 class Result(NamedTuple):
@@ -89,7 +97,7 @@ class Judgement:
                 try:
                     work = [workers.submit(self.work, turns, folder, number) for number in range(self.options.jobs)]
                     for each in work:
-                        each.result()
+                        outcome(each)
                     self.progress(end=True)
                     self.explain(workers, folder)
                 except BaseException:  # an interrupt among them: nothing is to run on
@@ -186,7 +194,7 @@ class Judgement:
         # The shortest first; of those that came to the same script, one.
         found = {}
         for each in work:
-            found.setdefault(each.result().small, each.result())
+            found.setdefault(outcome(each).small, outcome(each))
         self.failures = sorted(found.values(), key=lambda failure: len(failure.small))
         self.progress(end=True)
 
