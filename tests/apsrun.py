@@ -21,6 +21,11 @@ RE, TE, RI, TI = 1, 2, 4, 8
 UNIT = 0x80000300
 PRESCALER, PRESCALER_RELOAD, CONFIG = UNIT, UNIT + 4, UNIT + 8
 TIMER1, TIMER2, TIMER3, TIMER4 = TIMERS = [UNIT + 0x10 * n for n in (1, 2, 3, 4)]  # counter, +4 reload, +8 control
+IRQMP = 0x80000200
+LEVEL, PENDING, FORCE, CLEAR, MASK, EXTENDED = (IRQMP + offset for offset in (0x00, 0x04, 0x08, 0x0C, 0x40, 0xC0))
+PORT_LINES = [2, 17, 18, 19, 20, 21]
+TIMER_LINES = [8, 9, 10, 11]
+ALL_LINES = 0xFFFFFFFE  # bits 1 to 31
 LARGEST = 2**64 - 1
 
 
@@ -57,6 +62,7 @@ def skip(limit):
 
 
 RESET = record(6)
+ACKNOWLEDGE = record(7)
 
 
 def entry(number=0, emitted=None, levels=0, value=0, cycles=0, pulses=(0, 0, 0, 0)):
@@ -71,6 +77,7 @@ BLANKS = {
     4: range(1, 8),
     5: range(1, 8),
     6: range(1, 16),
+    7: range(1, 16),
 }
 
 
@@ -80,7 +87,7 @@ def altered(record, at, byte):
 
 def refusal(size, address):
     """The number that an access gets, by 01's table."""
-    base = next((base for base in [*PORTS, UNIT] if base <= address < base + 0x100), None)
+    base = next((base for base in [*PORTS, IRQMP, UNIT] if base <= address < base + 0x100), None)
     if size not in (1, 2, 4):
         return 1
     if base is None:
@@ -94,15 +101,17 @@ def refusal(size, address):
 
 class Walk:
     """A long script, and the log that 01's and 02's rules give it. Each step adds some records, each with its entry, and keeps what
-    later ones need to know of the machine: all of the ports, the prescaler's value and the timers' reloads. Between two
-    steps no timer is enabled, and only the step `time` has ticks."""
+    later ones need to know of the machine: all of the ports and of the interrupt controller, the prescaler's value and the timers'
+    reloads. Between two steps no timer is enabled, and only the step `time` has ticks."""
 
     def __init__(self, length):
         self.any = random.Random(length)
         self.records, self.entries = [], []
         self.reset()
         ports = [self.control, self.scaler, self.data, self.offer, self.take]
-        steps = [*ports, *ports, self.look, self.reload, self.wait, self.time, self.malformed, self.refused, self.nothing]
+        lines = [self.lines, self.acknowledge]
+        steps = [*ports, *ports, *lines, *lines, self.look, self.reload, self.wait, self.time]
+        steps += [self.malformed, self.refused, self.nothing]
         while len(self.records) < length:
             self.any.choice([*20 * steps, self.reset])()
         self.records, self.entries = self.records[:length], self.entries[:length]
@@ -115,10 +124,13 @@ class Walk:
         return self.any.randrange(6), self.any.getrandbits(32)
 
     def work_out_level(self, port):
-        control = self.controls[port]
+        control, before = self.controls[port], self.levels[port]
         self.levels[port] = int(control & TI != 0 or (control & RI != 0 and self.queues[port] != []))
+        if self.levels[port] > before:
+            self.registers[PENDING] |= 1 << PORT_LINES[port]
 
     def reset(self):
+        self.registers = dict.fromkeys([LEVEL, PENDING, FORCE, CLEAR, MASK, EXTENDED], 0)
         self.controls, self.scalers, self.queues, self.levels = [2**31] * 6, [0] * 6, [[] for _ in PORTS], [0] * 6
         self.prescaler, self.reloads = 0xFFFF, [0, 0, 0, 0xFFFF]
         self.say(RESET)
@@ -168,6 +180,32 @@ class Walk:
         for timer, reload in zip(TIMERS, self.reloads):
             self.say(read(timer + 4), value=reload)
 
+    def lines(self):
+        """A write of one of the controller's registers, and a read of all."""
+        registers = self.registers
+        register, value = self.any.choice([*registers]), self.any.getrandbits(32) & self.any.getrandbits(32)
+        if register == CLEAR:
+            registers[PENDING] &= ~value
+        elif register != EXTENDED:
+            registers[register] = value & (0xFFFE if register in (LEVEL, FORCE) else ALL_LINES)
+        self.say(write(register, value))
+        for register, value in registers.items():
+            self.say(read(register), value=value)
+
+    def acknowledge(self):
+        """The line first in order: level, then number, an extended one as 12. Force goes before pending."""
+        registers = self.registers
+        for _ in range(self.any.randrange(1, 4)):
+            waiting = (registers[PENDING] | registers[FORCE]) & registers[MASK]
+            seen = [line for line in range(1, 16) if waiting >> line & 1 or (line == 12 and waiting >> 16)]
+            line = max(seen, key=lambda line: (registers[LEVEL] >> line & 1, line), default=0)
+            taken = waiting.bit_length() - 1 if line == 12 and waiting >> 16 else line
+            if line == 12:
+                registers[EXTENDED] = taken if taken > 15 else 0
+            register = FORCE if registers[FORCE] >> taken & 1 else PENDING
+            registers[register] &= ~(1 << taken)
+            self.say(ACKNOWLEDGE, value=line)
+
     def reload(self):
         timer, value = self.any.randrange(4), self.any.getrandbits(32)
         self.reloads[timer] = value
@@ -200,6 +238,8 @@ class Walk:
         underflows = ticks // counts if restarts else min(ticks // counts, 1)
         rests = underflows and not restarts
         self.say(passes(cycles), cycles=passed, pulses=[underflows if other == timer else 0 for other in TIMERS])
+        if underflows:
+            self.registers[PENDING] |= 1 << TIMER_LINES[n]
         self.say(read(timer), value=0xFFFFFFFF if rests else reload - ticks % counts)
         control = 0x08 if rests else 0x09 + 2 * restarts
         self.say(read(timer + 8), value=control + (0x10 if underflows else 0))
@@ -210,15 +250,15 @@ class Walk:
         """Another kind, or a record that would show in the machine but for one byte."""
         port, value = self.draw()
         base = PORTS[port]
-        good = [read(base + DATA), write(base + CONTROL, value), offer(port, 0x55), advance(1), skip(1), RESET]
+        good = [read(base + DATA), write(base + CONTROL, value), offer(port, 0x55), advance(1), skip(1), RESET, ACKNOWLEDGE]
         record = self.any.choice(good)
         if self.any.randrange(2):
             self.say(altered(record, self.any.choice(BLANKS[record[0]]), self.any.randrange(1, 256)), number=10)
         else:
-            self.say(altered(record, 0, self.any.choice([0, *range(7, 256)])), number=10)
+            self.say(altered(record, 0, self.any.choice([0, *range(8, 256)])), number=10)
 
     def refused(self):
-        address = self.any.choice([*PORTS, UNIT]) + self.any.choice([*range(-4, 16), *range(0xFC, 0x104)])
+        address = self.any.choice([*PORTS, UNIT, IRQMP]) + self.any.choice([*range(-4, 16), *range(0xFC, 0x104)])
         size = self.any.choice([0, 1, 1, 2, 2, 3, 4, 4, 255])
         number = refusal(size, address)
         if number:
@@ -227,7 +267,9 @@ class Walk:
 
     def nothing(self):
         """Offsets without a register."""
-        address = self.any.choice([*(port + 0x10 for port in PORTS), UNIT + 0x0C, UNIT + 0x2C, UNIT + 0x50, UNIT + 0xFC])
+        unit, irqmp = (0x0C, 0x2C, 0x50, 0xFC), (0x10, 0x44, 0x80, 0xFC)
+        others = [*(UNIT + offset for offset in unit), *(IRQMP + offset for offset in irqmp)]
+        address = self.any.choice([*(port + 0x10 for port in PORTS), *others])
         self.say(write(address, 0xFFFFFFFF))
         self.say(read(address))
 
@@ -309,15 +351,24 @@ for count in (3840, 3841, 4095, 4096, 4097, 6144, 8191, 8192):
     case(f"{count} records", script(*longest.records[:count]), log(*longest.entries[:count]))
     case(f"{count} records and a tail", *with_tail(longest, count))
 
-# Each byte that must be 0, each kind, each size and each port number, in a machine with two lines raised and port 0 quiet.
-GOOD = read(PORTS[0] + CONTROL), write(PORTS[0] + CONTROL, TI), offer(4, 0), advance(1), skip(1), RESET
-KINDS = [0, *range(7, 256)]
-RAISED = (write(PORTS[2] + CONTROL, TI), entry(levels=0b000100)), (write(PORTS[5] + CONTROL, TI), entry(levels=0b100100))
-UNCHANGED = (read(PRESCALER), entry(levels=0b100100, value=0xFFFF))
+# Each byte that must be 0, each kind, each size and each port number, in a machine with two lines raised and port 0 quiet. The
+# lines are 18 and 21, and wait.
+GOOD = read(PORTS[0] + CONTROL), write(PORTS[0] + CONTROL, TI), offer(4, 0), advance(1), skip(1), RESET, ACKNOWLEDGE
+KINDS = [0, *range(8, 256)]
+RAISED = (
+    (write(MASK, ALL_LINES), entry()),
+    (write(PORTS[2] + CONTROL, TI), entry(levels=0b000100)),
+    (write(PORTS[5] + CONTROL, TI), entry(levels=0b100100)),
+)
+UNCHANGED = (
+    (read(PRESCALER), entry(levels=0b100100, value=0xFFFF)),
+    (read(PENDING), entry(levels=0b100100, value=0x240000)),
+    (read(EXTENDED), entry(levels=0b100100)),
+)
 
 
 def with_two_raised(what, *pairs):
-    example(what, *RAISED, *((record, entry(levels=0b100100, **answer)) for record, answer in pairs), UNCHANGED)
+    example(what, *RAISED, *((record, entry(levels=0b100100, **answer)) for record, answer in pairs), *UNCHANGED)
 
 
 TEN = {"number": 10}
@@ -507,17 +558,34 @@ example(
     (write(PORTS[3] + CONTROL, 5), entry()),
 )
 example(
-    "01: the five sizes and addresses",
+    "01, 02: the five sizes and addresses; 0x80000200 lies in the interrupt controller's window",
     (read(0x800001FE, 4), entry(number=3)),
     (read(0x80000101, 2), entry(number=4)),
     (read(0x800001FF, 1), entry(number=5)),
-    (read(0x80000200, 4), entry(number=2)),
+    (read(0x80000200, 4), entry()),
     (read(0x80000200, 3), entry(number=1)),
     (write(0x800001FE, 0xFFFFFFFF, 4), entry(number=3)),
     (write(0x80000101, 0xFFFFFFFF, 2), entry(number=4)),
     (write(0x800001FF, 0xFFFFFFFF, 1), entry(number=5)),
-    (write(0x80000200, 0xFFFFFFFF, 4), entry(number=2)),
     (write(0x80000200, 0xFFFFFFFF, 3), entry(number=1)),
+    (read(0x80000200, 4), entry()),
+    (write(0x80000200, 0xFFFFFFFF, 4), entry()),
+    (read(0x80000200, 4), entry(value=0xFFFE)),
+)
+example(
+    "02: sizes and addresses in the interrupt controller's window, and around the three that touch",
+    *(
+        (kind(address, size), entry(number=number))
+        for kind in (read, lambda address, size: write(address, 0xFFFFFFFF, size))
+        for number, size, address in (
+            (1, 3, 0x800002FF), (1, 0, 0x80000204), (1, 8, 0x80000240),
+            (2, 4, 0x800000FE), (2, 4, 0x80000400), (2, 1, 0x80000400), (1, 3, 0x80000400),
+            (3, 4, 0x800001FE), (3, 4, 0x800002FE), (3, 4, 0x800002FD), (3, 4, 0x800002FF), (3, 2, 0x800002FF), (3, 4, 0x800003FE),
+            (4, 2, 0x80000201), (4, 4, 0x80000202), (4, 4, 0x800002C2), (4, 2, 0x800002FD),
+            (5, 1, 0x80000200), (5, 2, 0x80000200), (5, 1, 0x80000241), (5, 2, 0x800002FE), (5, 1, 0x800002FF),
+        )
+    ),
+    *((read(register), entry()) for register in (LEVEL, PENDING, FORCE, CLEAR, MASK, EXTENDED)),
 )
 
 # A timer with reload n pulses at every (n + 1)-th of the 2^63 ticks.
@@ -606,6 +674,262 @@ example(
     (read(TIMER1), entry(value=0)),
     (skip(LARGEST), entry(cycles=1, pulses=(1, 0, 0, 0))),
     (read(TIMER2), entry(value=3)),
+)
+
+# 10. 02's interrupt controller.
+LINES_OFF = (write(MASK, 0), WRITTEN)  # the mask, as at reset
+
+
+def registers(levels=0, **others):
+    """A read of each register; those that are not named are 0."""
+    named = {"level": LEVEL, "pending": PENDING, "force": FORCE, "clear": CLEAR, "mask": MASK, "extended": EXTENDED}
+    assert set(others) <= set(named)
+    return [(read(address), entry(levels=levels, value=others.get(name, 0))) for name, address in named.items()]
+
+
+EACH_CYCLE_TICKS = (
+    (write(PRESCALER, 0), WRITTEN),
+    (write(PRESCALER_RELOAD, 0), WRITTEN),
+    (write(TIMER4 + 8, 0), WRITTEN),
+    (write(TIMER4, 0), WRITTEN),
+    (write(TIMER4 + 4, 0), WRITTEN),
+)
+for n, timer, pending in zip((1, 2, 3, 4), TIMERS, (0x100, 0x200, 0x400, 0x800)):
+    for passes, cycles in ((advance, 3), (skip, 1)):
+        pulses = [(n == other) * cycles for other in (1, 2, 3, 4)]
+        example(
+            f"02: pulses of timer {n} in {passes.__name__} 3 set line {7 + n}, and nothing else does",
+            *EACH_CYCLE_TICKS,
+            (write(timer + 8, 0x03), WRITTEN),  # EN and RS: underflows without a pulse
+            (passes(3), entry(cycles=3)),
+            *registers(),
+            (write(timer + 8, 0x1B), WRITTEN),  # with IE, and IP is cleared
+            (passes(0), entry()),
+            *registers(),
+            (passes(3), entry(cycles=cycles, pulses=pulses)),
+            *registers(pending=pending),
+            (write(timer + 8, 0x10), WRITTEN),  # it stands, and IP is cleared: the line stays
+            (passes(3), entry(cycles=3)),
+            *registers(pending=pending),
+            (ACKNOWLEDGE, entry()),
+            (write(MASK, ALL_LINES), WRITTEN),
+            *registers(pending=pending, mask=ALL_LINES),
+            (ACKNOWLEDGE, entry(value=7 + n)),
+            *registers(mask=ALL_LINES),
+            (ACKNOWLEDGE, entry()),
+            (write(timer + 8, 0x0B), WRITTEN),
+            (passes(3), entry(cycles=cycles, pulses=pulses)),
+            (passes(3), entry(cycles=cycles, pulses=pulses)),
+            (ACKNOWLEDGE, entry(value=7 + n)),
+            (ACKNOWLEDGE, entry()),
+            (read(timer + 8), entry(value=0x1B)),
+        )
+example(
+    "02: pulses of all four timers in the longest advance, and in one cycle",
+    *EACH_CYCLE_TICKS,
+    (write(MASK, ALL_LINES), WRITTEN),
+    *((write(timer + 8, 0x0B), WRITTEN) for timer in TIMERS),
+    (advance(LARGEST), entry(cycles=LARGEST, pulses=4 * [LARGEST])),
+    *registers(pending=0xF00, mask=ALL_LINES),
+    *((ACKNOWLEDGE, entry(value=line)) for line in (11, 10, 9, 8, 0)),
+    (skip(LARGEST), entry(cycles=1, pulses=(1, 1, 1, 1))),
+    (write(CLEAR, 0xA00), WRITTEN),
+    *((ACKNOWLEDGE, entry(value=line)) for line in (10, 8, 0)),
+)
+example(
+    "02: a short advance and a short skip leave the lines",
+    (write(PENDING, 0x80000006), WRITTEN),
+    (advance(7), entry(cycles=7)),
+    (skip(7), entry(cycles=7)),
+    *registers(pending=0x80000006),
+)
+
+for p, pending in enumerate((0x4, 0x20000, 0x40000, 0x80000, 0x100000, 0x200000)):
+    port, up, line = PORTS[p] + CONTROL, 1 << p, (2, 12, 12, 12, 12, 12)[p]
+    noted = {"extended": 16 + p} if p else {}
+    example(
+        f"02: rises of port {p}'s level, and what is none",
+        (offer(p, 0x40), entry(number=7)),
+        (write(port, TI, 2), entry(number=5)),
+        (write(port, RE | RI), WRITTEN),
+        *registers(),
+        (offer(p, 0x41), entry(levels=up)),  # a rise, by a byte
+        *registers(up, pending=pending),
+        (write(MASK, ALL_LINES), entry(levels=up)),
+        (ACKNOWLEDGE, entry(levels=up, value=line)),
+        *registers(up, mask=ALL_LINES, **noted),
+        (offer(p, 0x42), entry(levels=up)),  # the level stays 1
+        (write(port, RE | RI), entry(levels=up)),
+        (write(port, RE | RI | TI), entry(levels=up)),
+        (read(PORTS[p] + DATA), entry(levels=up, value=0x41)),
+        (read(PORTS[p] + DATA), entry(levels=up, value=0x42)),
+        (offer(p, 0x43), entry(levels=up)),
+        (ACKNOWLEDGE, entry(levels=up)),
+        *registers(up, mask=ALL_LINES, **noted),
+        (write(port, RE), entry()),  # it falls
+        (offer(p, 0x44), entry()),
+        *registers(mask=ALL_LINES, **noted),
+        (write(port, RI), entry(levels=up)),  # a rise, by a write: RI and two bytes that wait
+        *registers(up, pending=pending, mask=ALL_LINES, **noted),
+        (write(port, 0), entry()),  # it falls, and the line stays
+        *registers(pending=pending, mask=ALL_LINES, **noted),
+        (write(CLEAR, pending), WRITTEN),
+        (write(port, TI), entry(levels=up)),  # a rise, by TI
+        *registers(up, pending=pending, mask=ALL_LINES, **noted),
+        (RESET, entry()),  # it falls, and the line is gone
+        *registers(),
+        (write(port, TI), entry(levels=up)),
+        *registers(up, pending=pending),
+    )
+example(
+    "02: a byte that the full queue refuses is no rise",
+    (write(PORTS[1] + CONTROL, RE), WRITTEN),
+    *((offer(1, byte), WRITTEN) for byte in range(8)),
+    (offer(1, 8), entry(number=8)),
+    *registers(),
+)
+example(
+    "02: rises of all ports, taken in order",
+    *((write(PORTS[p] + CONTROL, TI), entry(levels=2 ** (p + 1) - 1)) for p in range(6)),
+    *registers(0x3F, pending=0x3E0004),
+    (write(MASK, 0x3E0004), entry(levels=0x3F)),
+    *(pair for noted in (21, 20, 19, 18, 17) for pair in (
+        (ACKNOWLEDGE, entry(levels=0x3F, value=12)), (read(EXTENDED), entry(levels=0x3F, value=noted)))),
+    (ACKNOWLEDGE, entry(levels=0x3F, value=2)),
+    *registers(0x3F, mask=0x3E0004, extended=17),
+)
+
+# What each register keeps of what is written to it.
+KEPT = ("level", LEVEL, 0xFFFE), ("pending", PENDING, ALL_LINES), ("force", FORCE, 0xFFFE), ("mask", MASK, ALL_LINES)
+for name, register, kept in KEPT:
+    example(
+        f"02: what the register {name} keeps",
+        *(pair for value in (0xFFFFFFFF, 0, 1, 0x10000, 0xA5A5A5A5, 0x5A5A5A5A, *(1 << bit for bit in range(32)))
+          for pair in ((write(register, value), WRITTEN), *registers(**{name: value & kept}))),
+    )
+example(
+    "02: clear clears pending bits and reads 0; extended acknowledge ignores writes",
+    (write(PENDING, 0xFFFFFFFF), WRITTEN),
+    (write(FORCE, 0xFFFFFFFF), WRITTEN),
+    (write(CLEAR, 0), WRITTEN),
+    *registers(pending=0xFFFFFFFE, force=0xFFFE),
+    (write(CLEAR, 0x00FF00FF), WRITTEN),
+    *registers(pending=0xFF00FF00, force=0xFFFE),
+    (write(EXTENDED, 0x1F), WRITTEN),
+    (write(EXTENDED, 0xFFFFFFFF), WRITTEN),
+    *registers(pending=0xFF00FF00, force=0xFFFE),
+    (write(CLEAR, 0xFFFFFFFF), WRITTEN),
+    *registers(force=0xFFFE),
+)
+WITHOUT = [IRQMP + offset for offset in range(0, 0x100, 4) if offset not in (0x00, 0x04, 0x08, 0x0C, 0x40, 0xC0)]
+example(
+    "02: the 58 offsets without a register",
+    (write(PENDING, 0x20000), WRITTEN),
+    (write(MASK, 0x20000), WRITTEN),
+    (ACKNOWLEDGE, entry(value=12)),
+    *(pair for address in WITHOUT for pair in ((write(address, 0xFFFFFFFF), WRITTEN), (read(address), entry()))),
+    *registers(mask=0x20000, extended=17),
+)
+
+
+def acknowledged(what, level, pending, force, mask, *answers):
+    """Acknowledges from these registers: of each its value, and pending, force and extended acknowledge after it. The last one
+    must leave all as it is, and is done again."""
+    example(
+        f"02: {what}",
+        (write(LEVEL, level), WRITTEN),
+        (write(PENDING, pending), WRITTEN),
+        (write(FORCE, force), WRITTEN),
+        (write(MASK, mask), WRITTEN),
+        *(pair for value, pending, force, noted in (*answers, answers[-1]) for pair in (
+            (ACKNOWLEDGE, entry(value=value)), *registers(level=level, pending=pending, force=force, mask=mask, extended=noted))),
+    )
+
+
+acknowledged("no line", 0xFFFE, 0, 0, ALL_LINES, (0, 0, 0, 0))
+acknowledged("all lines, and none with its mask bit", 0xFFFE, ALL_LINES, 0xFFFE, 0, (0, ALL_LINES, 0xFFFE, 0))
+for line in range(1, 16):
+    bit = 1 << line
+    acknowledged(f"line {line} pending", 0, bit, 0, bit, (line, 0, 0, 0), (0, 0, 0, 0))
+    acknowledged(f"line {line} forced", 0, 0, bit, bit, (line, 0, 0, 0), (0, 0, 0, 0))
+    acknowledged(f"line {line} forced and pending", bit, bit, bit, bit, (line, bit, 0, 0), (line, 0, 0, 0), (0, 0, 0, 0))
+    acknowledged(f"line {line} without its mask bit", bit, bit, bit, ALL_LINES ^ bit, (0, bit, bit, 0))
+for line in range(16, 32):
+    bit = 1 << line
+    acknowledged(f"line {line} pending", 0, bit, 0, bit, (12, 0, 0, line), (0, 0, 0, line))
+    acknowledged(f"line {line} without its mask bit", 0, bit, 0, ALL_LINES ^ bit, (0, bit, 0, 0))
+acknowledged("all lines, level 0", 0, ALL_LINES, 0, ALL_LINES,
+             (15, 0xFFFF7FFE, 0, 0), (14, 0xFFFF3FFE, 0, 0), (13, 0xFFFF1FFE, 0, 0),
+             (12, 0x7FFF1FFE, 0, 31), (12, 0x3FFF1FFE, 0, 30), (12, 0x1FFF1FFE, 0, 29), (12, 0x0FFF1FFE, 0, 28),
+             (12, 0x07FF1FFE, 0, 27), (12, 0x03FF1FFE, 0, 26), (12, 0x01FF1FFE, 0, 25), (12, 0x00FF1FFE, 0, 24),
+             (12, 0x007F1FFE, 0, 23), (12, 0x003F1FFE, 0, 22), (12, 0x001F1FFE, 0, 21), (12, 0x000F1FFE, 0, 20),
+             (12, 0x00071FFE, 0, 19), (12, 0x00031FFE, 0, 18), (12, 0x00011FFE, 0, 17), (12, 0x00001FFE, 0, 16),
+             (12, 0x00000FFE, 0, 0),
+             (11, 0x7FE, 0, 0), (10, 0x3FE, 0, 0), (9, 0x1FE, 0, 0), (8, 0xFE, 0, 0), (7, 0x7E, 0, 0), (6, 0x3E, 0, 0),
+             (5, 0x1E, 0, 0), (4, 0xE, 0, 0), (3, 0x6, 0, 0), (2, 0x2, 0, 0), (1, 0, 0, 0), (0, 0, 0, 0))
+acknowledged("level before number: 1 of level 1, 15 of level 0", 0x0002, 0x8002, 0, ALL_LINES,
+             (1, 0x8000, 0, 0), (15, 0, 0, 0), (0, 0, 0, 0))
+acknowledged("number among those of one level: 9 and 3 of level 1, 14 and 11 of level 0", 0x0208, 0x4A08, 0, ALL_LINES,
+             (9, 0x4808, 0, 0), (3, 0x4800, 0, 0), (14, 0x0800, 0, 0), (11, 0, 0, 0), (0, 0, 0, 0))
+acknowledged("level before force: 5 is pending with level 1, 6 forced with level 0", 0x0020, 0x0020, 0x0040, ALL_LINES,
+             (5, 0, 0x40, 0), (6, 0, 0, 0), (0, 0, 0, 0))
+acknowledged("number before force: 7 is pending, 4 forced", 0, 0x0080, 0x0010, ALL_LINES,
+             (7, 0, 0x10, 0), (4, 0, 0, 0), (0, 0, 0, 0))
+acknowledged("a level bit of a line that does not wait", 0x4000, 0x4100, 0x4000, 0x0100,
+             (8, 0x4000, 0x4000, 0), (0, 0x4000, 0x4000, 0))
+acknowledged("an extended line behind 13 and before 11", 0, 0x00012800, 0, ALL_LINES,
+             (13, 0x00010800, 0, 0), (12, 0x0800, 0, 16), (11, 0, 0, 16), (0, 0, 0, 16))
+acknowledged("an extended line of 12's level 1: behind 13 of level 1, before 15 of level 0", 0x3000, 0x8000A000, 0, ALL_LINES,
+             (13, 0x80008000, 0, 0), (12, 0x8000, 0, 31), (15, 0, 0, 31), (0, 0, 0, 31))
+acknowledged("an extended line of 12's level 0, behind 1 of level 1", 0x0002, 0x00020002, 0, ALL_LINES,
+             (1, 0x00020000, 0, 0), (12, 0, 0, 17), (0, 0, 0, 17))
+acknowledged("an extended line beside 12 forced and pending, without 12's mask bit", 0, 0x00101000, 0x1000, 0x00100000,
+             (12, 0x1000, 0x1000, 20), (0, 0x1000, 0x1000, 20))
+acknowledged("an extended line beside 12 forced and pending, with 12's mask bit", 0, 0x00101000, 0x1000, 0x00101000,
+             (12, 0x1000, 0x1000, 20), (12, 0x1000, 0, 0), (12, 0, 0, 0), (0, 0, 0, 0))
+acknowledged("12 beside an extended line that lacks its mask bit", 0, 0x00101000, 0, 0x1000,
+             (12, 0x00100000, 0, 0), (0, 0x00100000, 0, 0))
+acknowledged("the higher of two extended lines that wait, beside one that does not", 0, 0x01090000, 0, 0x00090000,
+             (12, 0x01010000, 0, 19), (12, 0x01000000, 0, 16), (0, 0x01000000, 0, 16))
+acknowledged("a number that stays noted", 0, 0x00020008, 0x0800, ALL_LINES,
+             (12, 0x8, 0x800, 17), (11, 0x8, 0, 17), (3, 0, 0, 17), (0, 0, 0, 17))
+
+# A line that is not masked any more waits; one that is masked does not; a timer's IP and a port's level stay.
+example(
+    "02: the mask taken away and put back",
+    (write(PENDING, 0x00040400), WRITTEN),
+    (ACKNOWLEDGE, entry()),
+    (write(MASK, 0x400), WRITTEN),
+    (ACKNOWLEDGE, entry(value=10)),
+    (ACKNOWLEDGE, entry()),
+    (write(MASK, 0x40000), WRITTEN),
+    LINES_OFF,
+    (ACKNOWLEDGE, entry()),
+    (write(MASK, 0x40000), WRITTEN),
+    (ACKNOWLEDGE, entry(value=12)),
+    *registers(mask=0x40000, extended=18),
+)
+example(
+    "02: a reset clears the whole controller and raises no line",
+    (write(PORTS[4] + CONTROL, TI), entry(levels=0b010000)),
+    (write(MASK, ALL_LINES), entry(levels=0b010000)),
+    (ACKNOWLEDGE, entry(levels=0b010000, value=12)),
+    (write(LEVEL, 0xFFFF), entry(levels=0b010000)),
+    (write(PENDING, 0x12345678), entry(levels=0b010000)),
+    (write(FORCE, 0xABCD), entry(levels=0b010000)),
+    *registers(0b010000, level=0xFFFE, pending=0x12345678, force=0xABCC, mask=ALL_LINES, extended=20),
+    (RESET, entry()),
+    *registers(),
+    (write(MASK, ALL_LINES), WRITTEN),
+    (ACKNOWLEDGE, entry()),
+    (write(PORTS[4] + CONTROL, TI), entry(levels=0b010000)),
+    (ACKNOWLEDGE, entry(levels=0b010000, value=12)),
+    (read(EXTENDED), entry(levels=0b010000, value=20)),
+)
+case(
+    "02: an acknowledge that is cut short",
+    script(write(PENDING, 2), write(MASK, 2), ACKNOWLEDGE[:15]),
+    log(entry(), entry(), entry(10)),
 )
 
 # Running them.

@@ -19,6 +19,7 @@ RECORDS = {
     "advance": (4, ">B7xQ", ["cycles"]),
     "skip": (5, ">B7xQ", ["limit"]),
     "reset": (6, ">B15x", []),
+    "acknowledge": (7, ">B15x", []),
 }
 BITS = {"size": 8, "address": 32, "value": 32, "port": 8, "byte": 8, "cycles": 64, "limit": 64}
 RECORD_LENGTH = 16
@@ -51,20 +52,34 @@ FIELDS = {
 # is none of them.
 NUMBERS = [0, 1, 2, 3, 4, 5, 6, 7, 8, 10, BAD_MARK, BAD_VERSION]
 
+
+def words(names):
+    """Registers that stand one behind the other, each with its offset."""
+    return {name: 4 * place for place, name in enumerate(names.split())}
+
+
 # The windows, each with its base and length; and what lies in them: each device, where it begins, how far it reaches, and its
-# registers from there on.
+# registers with their offsets from there.
 WINDOWS = {f"port{p}": (0x80100000 + 0x100 * p if p else 0x80000100, 0x100) for p in range(PORTS)}
 WINDOWS["unit"] = (0x80000300, 0x100)
-DEVICES = {f"port{p}": (*WINDOWS[f"port{p}"], "DATA STATUS CONTROL SCALER") for p in range(PORTS)}
-DEVICES["unit"] = (0x80000300, 0x10, "SCALER SRELOAD CONFIG")
-DEVICES |= {f"timer{n}": (0x80000300 + 0x10 * n, 0x10, "counter reload control") for n in range(1, TIMERS + 1)}
+WINDOWS["irqmp"] = (0x80000200, 0x100)
+DEVICES = {f"port{p}": (*WINDOWS[f"port{p}"], words("DATA STATUS CONTROL SCALER")) for p in range(PORTS)}
+DEVICES["unit"] = (0x80000300, 0x10, words("SCALER SRELOAD CONFIG"))
+DEVICES |= {f"timer{n}": (0x80000300 + 0x10 * n, 0x10, words("counter reload control")) for n in range(1, TIMERS + 1)}
+DEVICES["irqmp"] = (*WINDOWS["irqmp"], words("level pending force clear") | {"mask": 0x40, "extended": 0xC0})
 REGISTERS = {
-    f"{device}.{register}": base + 4 * place
+    f"{device}.{register}": base + offset
     for device, (base, _, registers) in DEVICES.items()
-    for place, register in enumerate(registers.split())
+    for register, offset in registers.items()
 }
 NAMES = {address: name for name, address in REGISTERS.items()}
 ANY_CASE = {name.lower(): address for name, address in REGISTERS.items()}
+
+# The interrupt lines, each named by its number and, where a device sets it, that device. Those from 16 on are extended lines, for
+# which level and force have no bits.
+SETS = {2: "port0"} | {7 + n: f"timer{n}" for n in range(1, TIMERS + 1)} | {16 + p: f"port{p}" for p in range(1, PORTS)}
+LINES = {line: f"{line}/{SETS[line]}" if line in SETS else str(line) for line in range(1, 32)}
+PLAIN_LINES = {line: name for line, name in LINES.items() if line < 16}
 
 # The bits that have a name, by the register's own name.
 REGISTER_BITS = {
@@ -72,6 +87,11 @@ REGISTER_BITS = {
     "CONTROL": {0: "RE", 1: "TE", 2: "RI", 3: "TI"},
     "CONFIG": {9: "DF"},
     "control": {0: "EN", 1: "RS", 2: "LD", 3: "IE", 4: "IP", 5: "CH"},
+    "level": PLAIN_LINES,
+    "pending": LINES,
+    "force": PLAIN_LINES,
+    "clear": LINES,
+    "mask": LINES,
 }
 
 
@@ -252,3 +272,10 @@ def register_bits(name, value):
     if bits is None:
         return ""
     return " ".join(label for bit, label in bits.items() if value >> bit & 1) or "no named bit"
+
+
+def value_note(kind, register, value):
+    """What the value of a read of a register, or of an acknowledge, says: its named bits, or the line that it numbers."""
+    if kind == "acknowledge" or register == "irqmp.extended":
+        return f"line {LINES[value]}" if value in LINES else "no line"
+    return register_bits(register, value)

@@ -1,4 +1,4 @@
-"""A small board: six serial ports and a timer unit, as docs/MANUAL.md has them in sections 4 to 7.
+"""A small board: six serial ports, a timer unit and an interrupt controller, as in docs/MANUAL.md, sections 4 to 8.
 
 Each rule is a method of its own, so that it can be read beside the manual, and so that `slips.py` can break it alone.
 """
@@ -8,6 +8,7 @@ from bridge import Answer
 # Section 4: the windows. All are 0x100 long and begin at a multiple of that.
 WINDOW = 0x100
 PORT_BASES = (0x80000100, 0x80100100, 0x80100200, 0x80100300, 0x80100400, 0x80100500)
+CONTROLLER_BASE = 0x80000200
 TIMER_UNIT_BASE = 0x80000300
 
 # The refusals.
@@ -28,6 +29,12 @@ EN, RS, LD, IE, IP, CH = 1 << 0, 1 << 1, 1 << 2, 1 << 3, 1 << 4, 1 << 5
 CONFIG_FIXED = 0x144
 DF = 1 << 9
 
+# Section 7: the interrupt controller's registers, and its lines. In a word of lines, bit n stands for line n.
+IRQMP_LEVEL, IRQMP_PENDING, IRQMP_FORCE, IRQMP_CLEAR, IRQMP_MASK, IRQMP_EXTENDED = 0x00, 0x04, 0x08, 0x0C, 0x40, 0xC0
+PLAIN_LINES = 0x0000FFFE
+EXTENDED_LINES = 0xFFFF0000
+CARRIER = 12  # the line as which all extended lines reach the processor
+
 NEVER = float("inf")  # the number of what does not happen; it compares and adds with whole numbers as one would expect
 
 
@@ -35,7 +42,9 @@ class SerialPort:
     ROOM = 8
     STATUS_COUNT = 1 << 26  # what one byte in the queue adds to STATUS
 
-    def __init__(self):
+    def __init__(self, controller, line):
+        self.controller = controller
+        self.line = line  # the one that it sets pending there
         self.reset()
 
     def reset(self):
@@ -86,7 +95,10 @@ class SerialPort:
         return 0
 
     def work_out_level(self):
+        before = self.level
         self.level = int(bool(self.control & RI and self.queue or self.control & TI))
+        if self.level > before:
+            self.controller.set_pending(self.line)
 
 
 def ends_in(steps, first, period):
@@ -193,7 +205,9 @@ class Timer:
 class TimerUnit:
     Timer = Timer  # a slip puts its own here
 
-    def __init__(self):
+    def __init__(self, controller, lines):
+        self.controller = controller
+        self.lines = lines  # those that the four timers set pending there
         self.reset()
 
     def reset(self):
@@ -237,14 +251,22 @@ class TimerUnit:
     def cycle_of_tick(self, k):
         return self.first() + (k - 1) * self.period()
 
-    # Section 7.
+    # Section 8.
 
     def advance(self, cycles):
         """Do so many cycles, and return the pulses of the four timers."""
         ticks = self.ticks_in(cycles)
         self.scaler += ticks * self.period() - cycles  # each cycle takes 1, and each tick gives a period
         counts = [timer.counts_in(ticks) for timer in self.timers]  # of all of them, before any is changed
-        return tuple(timer.count(k) for timer, k in zip(self.timers, counts))
+        pulses = tuple(timer.count(k) for timer, k in zip(self.timers, counts))
+        self.set_lines(pulses)
+        return pulses
+
+    def set_lines(self, pulses):
+        """Set the line of each timer that had a pulse: one or many is the same."""
+        for line, count in zip(self.lines, pulses):
+            if count:
+                self.controller.set_pending(line)
 
     def skip(self, limit):
         """Do cycles up to the first pulse or the limit, and return how many, and the pulses of the four timers."""
@@ -257,14 +279,93 @@ class TimerUnit:
         return timer.pulses(1)
 
 
+def highest(lines):
+    """The number of the highest line in a word, or 0 if there is none: no line has the number 0."""
+    return (lines >> 1).bit_length()
+
+
+class InterruptController:
+    def __init__(self):
+        self.reset()
+
+    def reset(self):
+        self.level = self.pending = self.force = self.mask = 0
+        self.noted = 0  # the extended acknowledge
+
+    def read(self, offset):
+        return {
+            IRQMP_LEVEL: self.level,
+            IRQMP_PENDING: self.pending,
+            IRQMP_FORCE: self.force,
+            IRQMP_MASK: self.mask,
+            IRQMP_EXTENDED: self.noted,
+        }.get(offset, 0)
+
+    def write(self, offset, value):
+        if offset == IRQMP_LEVEL:
+            self.level = value & PLAIN_LINES
+        elif offset == IRQMP_PENDING:
+            self.pending = value & (PLAIN_LINES | EXTENDED_LINES)
+        elif offset == IRQMP_FORCE:
+            self.force = value & PLAIN_LINES
+        elif offset == IRQMP_CLEAR:
+            self.clear(value)
+        elif offset == IRQMP_MASK:
+            self.mask = value & (PLAIN_LINES | EXTENDED_LINES)
+
+    def clear(self, lines):
+        self.pending &= ~lines
+
+    def set_pending(self, line):
+        """What the other devices call. The mask plays no part: it holds a line back, but does not lose it."""
+        self.pending |= 1 << line
+
+    # The steps of an acknowledge: which lines wait, which of 1 to 15 the processor sees, which it chooses and takes.
+
+    def waiting(self):
+        return (self.pending | self.force) & self.mask
+
+    def candidates(self, waiting):
+        return waiting & PLAIN_LINES | (1 << CARRIER if waiting & EXTENDED_LINES else 0)
+
+    def choose(self, candidates):
+        """The number of the highest with level 1, or if there is none the highest of all; 0 without a candidate."""
+        return highest(candidates & self.level or candidates)
+
+    def take(self, line):
+        """Clear one bit. An extended line is never forced, so that it is the pending bit there."""
+        if self.force >> line & 1:
+            self.force &= ~(1 << line)
+        else:
+            self.pending &= ~(1 << line)
+
+    def acknowledge(self):
+        """Take a line, and return the number that the processor sees, or 0 if no line waits."""
+        waiting = self.waiting()
+        line = self.choose(self.candidates(waiting))
+        if line == CARRIER:
+            self.noted = highest(waiting & EXTENDED_LINES)  # 0 if it is line 12 itself
+            self.take(self.noted or CARRIER)
+        elif line:
+            self.take(line)
+        return line
+
+
 class Board:
     Port = SerialPort  # a slip puts its own here
     Unit = TimerUnit
+    Controller = InterruptController
+
+    # Section 7: the lines that ports 0 to 5 and timers 1 to 4 set pending.
+    PORT_LINES = (2, 17, 18, 19, 20, 21)
+    TIMER_LINES = (8, 9, 10, 11)
 
     def __init__(self):
-        self.ports = [self.Port() for _ in PORT_BASES]
-        self.unit = self.Unit()
-        self.devices = {**dict(zip(PORT_BASES, self.ports)), TIMER_UNIT_BASE: self.unit}
+        self.controller = self.Controller()
+        self.ports = [self.Port(self.controller, line) for line in self.PORT_LINES]
+        self.unit = self.Unit(self.controller, self.TIMER_LINES)
+        self.devices = dict(zip(PORT_BASES, self.ports))
+        self.devices.update({CONTROLLER_BASE: self.controller, TIMER_UNIT_BASE: self.unit})
 
     @property
     def levels(self):
@@ -308,3 +409,6 @@ class Board:
         for device in self.devices.values():
             device.reset()
         return Answer()
+
+    def acknowledge(self):
+        return Answer(value=self.controller.acknowledge())

@@ -1,7 +1,7 @@
 """The bridge: the front of a simulator. It reads a script, has a board do what each record says, and writes the log.
 
 It knows the two file formats (docs/MANUAL.md, sections 2 and 3) and nothing of devices. To put your own board behind
-it, give `run` an object with the methods and the attribute of section 9:
+it, give `run` an object with the methods and the attribute of section 10:
 
     run(Board(), sys.stdin.buffer, sys.stdout.buffer)
 """
@@ -24,6 +24,7 @@ KINDS = {
     4: ("advance", Struct(">7xQ")),  # cycles
     5: ("skip", Struct(">7xQ")),  # limit
     6: ("reset", Struct(">15x")),
+    7: ("acknowledge", Struct(">15x")),
 }
 
 # number, emitted or not, the byte emitted, levels, value, cycles, pulses of timers 1 to 4

@@ -1,6 +1,7 @@
 """Boards with one slip each, to see how a failure is shown. SLIPS has them by name: the class, and what is wrong."""
 
-from board import CH, EN, IP, NO_WINDOW, PAST_END, RE, Board, SerialPort, Timer, TimerUnit
+from board import CARRIER, CH, EN, IP, NO_WINDOW, PAST_END, PLAIN_LINES, RE, highest
+from board import Board, InterruptController, SerialPort, Timer, TimerUnit
 from bridge import Answer
 
 SLIPS = {}
@@ -14,7 +15,7 @@ def slip(name, description):
     return register
 
 
-# The seven of docs/MANUAL.md, section 10.
+# The seven of docs/MANUAL.md, section 11.
 
 
 @slip("prescaler-period", "the prescaler's period is its reload, in place of reload + 1; reload 0 stays a period of 1")
@@ -101,7 +102,7 @@ class CutAdvance(Board):
         return other_record
 
     read, write, offer = ends_advances(Board.read), ends_advances(Board.write), ends_advances(Board.offer)
-    skip, reset = ends_advances(Board.skip), ends_advances(Board.reset)
+    skip, reset, acknowledge = ends_advances(Board.skip), ends_advances(Board.reset), ends_advances(Board.acknowledge)
 
 
 # Further ones.
@@ -208,3 +209,121 @@ class ResetKeepsQueues(Board):
 class LongAdvance(Board):
     def advance(self, cycles):
         return Answer(cycles=cycles, pulses=self.unit.advance(cycles - (cycles >= 1 << 63)))
+
+
+# Of the interrupt controller, and of what sets its lines.
+
+
+@slip("pulse-sets-no-line", "a pulse sets no line pending")
+class PulseSetsNoLine(Board):
+    class Unit(TimerUnit):
+        def set_lines(self, pulses):
+            pass
+
+
+@slip("timer-lines", "timer n is on line 8 + n, in place of 7 + n")
+class TimerLines(Board):
+    TIMER_LINES = (9, 10, 11, 12)
+
+
+@slip("level-raises-again", "a port's level that is worked out and stays 1 sets the line pending again")
+class LevelRaisesAgain(Board):
+    class Port(SerialPort):
+        def work_out_level(self):
+            super().work_out_level()
+            if self.level:
+                self.controller.set_pending(self.line)
+
+
+@slip("fall-clears-line", "a port's level that falls clears the line's pending bit")
+class FallClearsLine(Board):
+    class Port(SerialPort):
+        def work_out_level(self):
+            before = self.level
+            super().work_out_level()
+            if self.level < before:
+                self.controller.clear(1 << self.line)
+
+
+@slip("masked-not-kept", "a line that is set while its mask bit is 0 is lost")
+class MaskedNotKept(Board):
+    class Controller(InterruptController):
+        def set_pending(self, line):
+            if self.mask >> line & 1:
+                super().set_pending(line)
+
+
+@slip("mask-of-12", "line 12's mask bit holds the extended lines back too")
+class MaskOf12(Board):
+    class Controller(InterruptController):
+        def candidates(self, waiting):
+            return super().candidates(waiting if self.mask >> CARRIER & 1 else waiting & PLAIN_LINES)
+
+
+@slip("lowest-first", "among lines 1 to 15 of the same level the lowest goes first, in place of the highest")
+class LowestFirst(Board):
+    class Controller(InterruptController):
+        def choose(self, candidates):
+            candidates = candidates & self.level or candidates
+            return highest(candidates & -candidates)  # which is the lowest 1 alone
+
+
+@slip("priority-ignored", "the bits of the controller's level make no difference")
+class PriorityIgnored(Board):
+    class Controller(InterruptController):
+        def choose(self, candidates):
+            return highest(candidates)
+
+
+@slip("both-bits-cleared", "taking a line clears its force bit and its pending bit, in place of one of them")
+class BothBitsCleared(Board):
+    class Controller(InterruptController):
+        def take(self, line):
+            self.force &= ~(1 << line)
+            self.pending &= ~(1 << line)
+
+
+@slip("clear-clears-force", "a write to clear clears bits of force too")
+class ClearClearsForce(Board):
+    class Controller(InterruptController):
+        def clear(self, lines):
+            super().clear(lines)
+            self.force &= ~lines
+
+
+@slip("nothing-noted", "nothing is noted when an extended line is taken")
+class NothingNoted(Board):
+    class Controller(InterruptController):
+        def acknowledge(self):
+            line = super().acknowledge()
+            self.noted = 0
+            return line
+
+
+@slip("note-cleared", "the number noted is cleared when another line than 12 is taken")
+class NoteCleared(Board):
+    class Controller(InterruptController):
+        def acknowledge(self):
+            line = super().acknowledge()
+            if line not in (0, CARRIER):
+                self.noted = 0
+            return line
+
+
+@slip("own-number", "an extended line is acknowledged by its own number, in place of 12")
+class OwnNumber(Board):
+    class Controller(InterruptController):
+        def acknowledge(self):
+            line = super().acknowledge()
+            return self.noted or line if line == CARRIER else line
+
+
+@slip("reset-keeps-mask", "a reset leaves the controller's mask")
+class ResetKeepsMask(Board):
+    class Controller(InterruptController):
+        mask = 0
+
+        def reset(self):
+            kept = self.mask
+            super().reset()
+            self.mask = kept

@@ -137,8 +137,8 @@ def side_by_side(failure):
     name, values = formats.decode(record)
     register = formats.NAMES.get(values[1], "") if name == "read" else ""
     for shown in (expected, got):
-        bits = formats.register_bits(register, int(shown["value"], 16))
-        shown["value"] += f" ({bits})" if bits else ""
+        note = formats.value_note(name, register, int(shown["value"], 16))
+        shown["value"] += f" ({note})" if note else ""
         for field in [field for field in shown if field == "cycles" or field.startswith("pulses")]:
             shown[field] += f" ({int(shown[field]):#x})" if int(shown[field]) >= 2**16 else ""
     differ = [field for field in expected if expected[field] != got[field]]
@@ -147,7 +147,8 @@ def side_by_side(failure):
     yield f"  record {place}   {'expected':{width}}   got"
     for field in differ:
         mark = "   the first field that differs" if field == differ[0] and len(differ) > 1 else ""
-        yield f"  {field:{len(f'record {place}')}}   {expected[field]:{width}}   {got[field]:{other if mark else 0}}{mark}"
+        found = got[field].ljust(other) + mark if mark else got[field]
+        yield f"  {field:{len(f'record {place}')}}   {expected[field]:{width}}   {found}"
 
 
 def meaning(failure):

@@ -225,7 +225,8 @@ def coverage_text(coverage):
     for part in TO_MEET:
         yield ""
         yield f"  {part} ({EXPLAINED[part]})"
-        yield from (f"    {name:24} {count}" for name, count in coverage[part].items())
+        width = max(24, *map(len, coverage[part]))
+        yield from (f"    {name:{width}} {count}" for name, count in coverage[part].items())
 
 
 def folder(place):

@@ -1,6 +1,6 @@
--- Each call on a machine: paper 01, "Refusal numbers" with its order, and "The slow run". The code's enum of calls says no
--- more than the paper does, so the definitions are on that enum: "An access has a 32-bit address and a size in bytes." "Script
--- records are such calls, a malformed one a refused call".
+-- Each call on a machine: paper 01, "Refusal numbers" with its order, and "The slow run"; paper 02, No. 4, adds the acknowledge.
+-- The code's enum of calls says no more than the papers do, so the definitions are on that enum: "An access has a 32-bit address
+-- and a size in bytes." "Script records are such calls, a malformed one a refused call".
 pub mod Laws
 use Prim.Native.Nat.{ℕ, _+_, _-_, _%_}
 use mathlib.Core.Bool.{Bool, false, true, cond, not, _||_}
@@ -11,16 +11,19 @@ use Rattle.devices.specs.Word.{bit}
 use Rattle.devices.specs.Refusal.{notRefused, receiverOff, queueFull, illFormed}
 use Rattle.devices.specs.Apbuart as uart
 use Rattle.devices.specs.Gptimer as gpt
+use Rattle.devices.specs.Irqmp as irq
 use Rattle.bus.specs.Refusal.{badSize, noWindow, pastWindow, misaligned, notAWord, noPort, badRecord}
 use Rattle.bus.specs.Board as board
 use Rattle.bus.specs.Machine.{Machine, Answer, wellFormed, resetState, portAt, withUnit}
-use Rattle.bus.specs.Machine.{refused, accepted, ofPort, ofSpan}
+use Rattle.bus.specs.Machine.{refused, accepted, ofPort, ofController}
+use Rattle.bus.specs.Time as time
+use Rattle.bus.specs.Time.{stepped, ofSpan}
 use Rattle.bus.specs.declared.board.Device.{Device}
 use Rattle.bus.specs.declared.board.Device.the-variants as device
 use Rattle.bus.specs.declared.board.Found.{Found}
 use Rattle.bus.specs.declared.board.Found.the-variants.{In, Nowhere}
 use Rattle.bus.specs.declared.machine.Call.{Call}
-use Rattle.bus.specs.declared.machine.Call.the-variants.{Read, Write, Offer, Advance, Skip, Reset, Malformed}
+use Rattle.bus.specs.declared.machine.Call.the-variants.{Read, Write, Offer, Advance, Skip, Reset, Acknowledge, Malformed}
 
 -- "No. | Given exactly when"
 infix 70 _when_
@@ -92,16 +95,19 @@ subject (Offer n byte) m = byteFor n
 subject (Advance cycles) m = other
 subject (Skip limit) m = other
 subject Reset m = other
+subject Acknowledge m = other
 subject Malformed m = unreadable
 
 -- A device answers an access as its own definitions say.
 abbrev pub readDevice : Machine → Device → ℕ → Answer
 readDevice m (device.Port n) offset = ofPort n (uart.read offset (portAt n m)) m
 readDevice m device.TimerUnit offset = accepted (gpt.read offset (m .unit)) m
+readDevice m device.Controller offset = ofController (irq.read offset (m .irqmp)) m
 
 abbrev pub writeDevice : ℕ → Machine → Device → ℕ → Answer
 writeDevice value m (device.Port n) offset = ofPort n (uart.write offset value (portAt n m)) m
 writeDevice value m device.TimerUnit offset = accepted 0 (withUnit (gpt.write offset value (m .unit)) m)
+writeDevice value m device.Controller offset = ofController (irq.write offset value (m .irqmp)) m
 
 -- An access reaches the device whose window its address lies in, at the offset from the window's base. One that lies in no
 -- window is refused, so what stands for it here is never asked for.
@@ -110,15 +116,16 @@ reach reply m address (In w) = reply (w .device) (address - w .base)
 reach reply m address Nowhere = accepted 0 m
 
 -- "An access, an offered byte and a reset do what the sections above say. An advance does one cycle as often as its span
--- says. A skip does one cycle after another while none had a pulse of any timer and the limit isn't reached." A malformed
--- record is always refused.
+-- says. A skip does one cycle after another while none had a pulse of any timer and the limit isn't reached." An access and a
+-- byte are steps (Time.antt). 02: "A new script kind 7 acknowledges". A malformed record is always refused.
 abbrev pub execute : Call → Machine → Answer
-execute (Read address size) m = reach (readDevice m) m address (windowOf address m)
-execute (Write address size value) m = reach (writeDevice value m) m address (windowOf address m)
-execute (Offer n byte) m = ofPort n (uart.offer byte (portAt n m)) m
-execute (Advance cycles) m = ofSpan (gpt.advance cycles (m .unit)) m
-execute (Skip limit) m = ofSpan (gpt.skip limit (m .unit)) m
+execute (Read address size) m = stepped m (reach (readDevice m) m address (windowOf address m))
+execute (Write address size value) m = stepped m (reach (writeDevice value m) m address (windowOf address m))
+execute (Offer n byte) m = stepped m (ofPort n (uart.offer byte (portAt n m)) m)
+execute (Advance cycles) m = ofSpan (time.advance cycles m)
+execute (Skip limit) m = ofSpan (time.skip limit m)
 execute Reset m = accepted 0 (resetState (m .board))
+execute Acknowledge m = ofController (irq.acknowledge (m .irqmp)) m
 execute Malformed m = accepted 0 m
 
 -- "A call refused by the table gets the refusal's answer and changes nothing."

@@ -1,5 +1,5 @@
 -- The machine, and what a call on it answers: paper 01, "Refusal numbers" and, for the fields of an answer, "Script and
--- log".
+-- log"; with the controller of paper 02, No. 4.
 use Prim.Native.Nat.{ℕ, _+_, _-_, _*_}
 use mathlib.Core.Bool.{Bool, false, true, cond, _&&_}
 use mathlib.Core.List.{List, [], _∷_}
@@ -8,8 +8,10 @@ use Rattle.devices.specs.Refusal.{notRefused}
 use Rattle.devices.specs.Apbuart as uart
 use Rattle.devices.specs.Apbuart.{Port}
 use Rattle.devices.specs.Gptimer as gpt
+use Rattle.devices.specs.Irqmp as irq
 use Rattle.devices.specs.declared.gptimer.Gptimer.{Gptimer}
-use Rattle.devices.specs.declared.gptimer.Elapsed.{Elapsed}
+use Rattle.devices.specs.declared.irqmp.Irqmp.{Irqmp}
+use Rattle.devices.specs.declared.irqmp.Answer as controller
 use Rattle.bus.specs.declared.board.Board.{Board}
 
 -- "Two machines are equal when their registers, queued bytes oldest first, and line levels are equal." Its board is part of a
@@ -18,28 +20,32 @@ pub record Machine : Type 0 where
   pub board : Board
   pub ports : List Port
   pub unit : Gptimer
+  pub irqmp : Irqmp
 
 -- port n; where there is none, a port at reset, on which no answer depends
 abbrev pub portAt : ℕ → Machine → Port
 portAt n m = getD (m .ports) n uart.resetState
 
 abbrev pub withPort : ℕ → Port → Machine → Machine
-withPort n p m = record { board = m .board; ports = set (m .ports) n p; unit = m .unit }
+withPort n p m = record { board = m .board; ports = set (m .ports) n p; unit = m .unit; irqmp = m .irqmp }
 
 abbrev pub withUnit : Gptimer → Machine → Machine
-withUnit u m = record { board = m .board; ports = m .ports; unit = u }
+withUnit u m = record { board = m .board; ports = m .ports; unit = u; irqmp = m .irqmp }
+
+abbrev pub withIrqmp : Irqmp → Machine → Machine
+withIrqmp c m = record { board = m .board; ports = m .ports; unit = m .unit; irqmp = c }
 
 -- "A state is ill formed exactly when a prescaler number exceeds 0xFFFF, a timer control has a bit outside 0x3B, a port's
 -- SCALER exceeds 0xFF, a port's CONTROL lacks bit 31, or a receive queue claims more than 8 bytes. A case that the chosen
--- types exclude needs no test": a timer unit is never ill formed.
+-- types exclude needs no test": a timer unit is never ill formed. 02, No. 4, says when a controller is.
 unfoldable pub allWell : List Port → Bool
 allWell [] = true
 allWell (p ∷ ps) = uart.wellFormed p && allWell ps
 
 abbrev pub wellFormed : Machine → Bool
-wellFormed m = allWell (m .ports)
+wellFormed m = allWell (m .ports) && irq.wellFormed (m .irqmp)
 
--- "Each device has one reset state." "six APBUART serial ports, one GPTIMER unit": every machine has as many.
+-- "Each device has one reset state." "six APBUART serial ports, one GPTIMER unit", and the controller: every machine has as many.
 abbrev pub resetState : Board → Machine
 resetState b =
     record {
@@ -47,6 +53,7 @@ resetState b =
       ports =
           uart.resetState ∷ uart.resetState ∷ uart.resetState ∷ uart.resetState ∷ uart.resetState ∷ uart.resetState ∷ [];
       unit = gpt.resetState;
+      irqmp = irq.resetState;
     }
 
 -- What a call answers: "0 refusal number; 1 is 1 if a byte was emitted; 2 that byte, else 0; 3 the line levels after it,
@@ -104,6 +111,6 @@ accepted value after = answered notRefused false 0 value 0 noPulses after
 abbrev pub ofPort : ℕ → uart.Answer → Machine → Answer
 ofPort n a m = answered notRefused (a .emitted) (a .byte) (a .value) 0 noPulses (withPort n (a .port) m)
 
--- and a span of time that its timer unit passed:
-abbrev pub ofSpan : Elapsed → Machine → Answer
-ofSpan e m = answered notRefused false 0 0 (e .cycles) (e .pulses) (withUnit (e .unit) m)
+-- and an access or an acknowledge that its controller answered:
+abbrev pub ofController : controller.Answer → Machine → Answer
+ofController a m = accepted (a .value) (withIrqmp (a .controller) m)

@@ -10,16 +10,21 @@ use Rattle.devices.specs.Refusal.{notRefused}
 use Rattle.devices.specs.Apbuart as uart
 use Rattle.devices.specs.Apbuart.Call.{answerTo}
 use Rattle.devices.specs.Gptimer as gpt
-use Rattle.devices.specs.Gptimer.Span.{pass}
+use Rattle.devices.specs.Irqmp.Call as controller
+use Rattle.devices.specs.declared.gptimer.Span as gptimer
+use Rattle.devices.specs.declared.irqmp.Answer as irqmp
+use Rattle.devices.specs.declared.gptimer.Span.the-variants.{Cycles, ToPulse}
 use Rattle.bus.specs.Board.{allThere}
-use Rattle.bus.specs.Machine.{Machine, Answer, wellFormed, resetState, portAt, withPort, withUnit}
-use Rattle.bus.specs.Machine.{answered, noPulses, refused, accepted, ofSpan}
+use Rattle.bus.specs.Machine.{Machine, Answer, wellFormed, resetState, portAt, withPort, withUnit, withIrqmp}
+use Rattle.bus.specs.Machine.{answered, noPulses, refused, accepted}
+use Rattle.bus.specs.Time as time
+use Rattle.bus.specs.Time.{Passed, step, ofSpan}
 use Rattle.bus.specs.Call.{answer}
 use Rattle.bus.specs.declared.board.Board.{Board}
 use Rattle.bus.specs.declared.machine.Call.{Call}
 use Rattle.bus.specs.declared.reply.Reply.{Reply}
 use Rattle.bus.specs.declared.route.Route.{Route}
-use Rattle.bus.specs.declared.route.Route.the-variants.{Refused, Port, ReadUnit, WriteUnit, Pass, Reset}
+use Rattle.bus.specs.declared.route.Route.the-variants.{Refused, Port, ReadUnit, WriteUnit, Controller, Pass, Reset}
 
 -- The answer of a call that leaves the machine `after`: of the code's reply,
 abbrev pub replied : Reply → Machine → Answer
@@ -29,13 +34,26 @@ replied r after = answered (r .refusal) (r .emitted) (r .byte) (r .value) (r .cy
 abbrev pub portAnswer : uart.Answer → Machine → Answer
 portAnswer a after = answered (a .refusal) (a .emitted) (a .byte) (a .value) 0 noPulses after
 
+-- of what the controller answered, with its own number too,
+abbrev pub controllerAnswer : irqmp.Answer → Machine → Answer
+controllerAnswer a after = answered (a .refusal) false 0 (a .value) 0 noPulses after
+
 -- and of a span of time.
 abbrev pub spanAnswer : (cycles : ℕ) (pulses : List ℕ) → Machine → Answer
 spanAnswer cycles pulses after = answered notRefused false 0 0 cycles pulses after
 
--- Port n answers its own call, and is stored.
+-- Port n answers its own call and is stored, which is a step.
 abbrev pub portCalled : ℕ → uart.Answer → Machine → Answer
-portCalled n a m = portAnswer a (withPort n (a .port) m)
+portCalled n a m = portAnswer a (step noPulses m (withPort n (a .port) m))
+
+-- So is the controller.
+abbrev pub controllerCalled : irqmp.Answer → Machine → Answer
+controllerCalled a m = controllerAnswer a (withIrqmp (a .controller) m)
+
+-- The machine passes a span.
+abbrev pub passes : gptimer.Span → Machine → Passed
+passes (Cycles cycles) m = time.advance cycles m
+passes (ToPulse limit) m = time.skip limit m
 
 -- What a route answers on a machine.
 unfoldable pub carriedOut : Route → Machine → Answer
@@ -43,7 +61,8 @@ carriedOut (Refused number) m = refused number m
 carriedOut (Port n c) m = portCalled n (answerTo c (portAt n m)) m
 carriedOut (ReadUnit offset) m = accepted (gpt.read offset (m .unit)) m
 carriedOut (WriteUnit offset value) m = accepted 0 (withUnit (gpt.write offset value (m .unit)) m)
-carriedOut (Pass span) m = ofSpan (pass span (m .unit)) m
+carriedOut (Controller c) m = controllerCalled (controller.answerTo c (m .irqmp)) m
+carriedOut (Pass span) m = ofSpan (passes span m)
 carriedOut Reset m = accepted 0 (resetState (m .board))
 
 -- A port that a route names is one of the first so many.
@@ -52,6 +71,7 @@ portExists ports (Refused number) = true
 portExists ports (Port n c) = ltb n ports
 portExists ports (ReadUnit offset) = true
 portExists ports (WriteUnit offset value) = true
+portExists ports (Controller c) = true
 portExists ports (Pass span) = true
 portExists ports Reset = true
 

@@ -1,5 +1,5 @@
--- The slow run: paper 01, section of that name. `answer` (Call.antt) is the answer to one call; an advance and a skip are
--- those of the timer unit's definitions (Gptimer.antt of the devices), in single cycles.
+-- The slow run: paper 01, section of that name. `answer` (Call.antt) is the answer to one call; an advance and a skip go by single
+-- cycles of the machine (Time.antt).
 pub mod Laws
 use mathlib.Core.List.{List, [], _∷_}
 use Rattle.bus.specs.Machine.{Machine, Answer}

@@ -13,11 +13,15 @@ use Rattle.devices.specs.Apbuart as uart
 use Rattle.devices.specs.Apbuart.Laws.{read-accepted, write-accepted}
 use Rattle.devices.specs.Gptimer as gpt
 use Rattle.devices.specs.Gptimer.Laws.{Least, skip-least}
+use Rattle.devices.specs.Irqmp as irq
+use Rattle.devices.specs.Irqmp.Laws as controller
 use Rattle.devices.specs.declared.gptimer.Elapsed.{Elapsed}
 use Rattle.bus.specs.Board.{gr712rc, holds, allApart, allThere}
 use Rattle.bus.specs.Board.Laws.{one-window}
 use Rattle.bus.specs.Machine as bus
 use Rattle.bus.specs.Machine.{wellFormed}
+use Rattle.bus.specs.Time.{advance, ofSpan}
+use Rattle.bus.specs.Time.Laws.{skip-advance}
 use Rattle.bus.specs.Call.{byteFor, table, refusal, windowOf, subject}
 use Rattle.bus.specs.Call.Laws as laws
 use Rattle.bus.specs.Call.Laws.{noneGiven}
@@ -30,13 +34,17 @@ use Rattle.bus.specs.declared.machine.Call.{Call}
 use Rattle.bus.specs.declared.machine.Call.the-variants.{Skip}
 
 -- "An idle skip takes a limit and passes the fewest cycles, one or more, whose last has a pulse; if there is none within
--- the limit it passes the limit." It answers with a span of the timer unit of which this is true (`Least`, Gptimer/Laws.antt of
--- the devices).
+-- the limit it passes the limit." It answers as an advance of the machine by the cycles of a span of its timer unit of which this
+-- is true (`Least`, Gptimer/Laws.antt of the devices).
 pub skip-claim :
     {m : Machine} {limit : ℕ} {a : Answer} → wellFormed (machineOf m) ≡ true → Conforms m (Skip limit) a →
-    (e : Elapsed) × (answerOf a ≡ bus.ofSpan e (machineOf m)) × Least limit (m .unit) e
+    (e : Elapsed) × (answerOf a ≡ ofSpan (advance (e .cycles) (machineOf m))) × Least limit (m .unit) e
 skip-claim {m} {limit} w h =
-    (gpt.skip limit (m .unit), h .answer ∙ laws.skip-well (machineOf m) w limit, skip-least limit (m .unit))
+    let n = machineOf m in (
+      gpt.skip limit (m .unit),
+      h .answer ∙ laws.skip-well n w limit ∙ ap ofSpan (skip-advance limit n),
+      skip-least limit (m .unit),
+    )
 
 -- A call neither makes nor repairs an ill-formed machine.
 pub well-claim :
@@ -81,10 +89,25 @@ pub port-claim :
     (uart.write offset value (bus.portAt n m) .refusal ≡ notRefused) ×
     (leb (m .board .ports) n ≡ false → uart.offer byte (bus.portAt n m) .refusal ≡ refusal (byteFor n) m)
 port-claim m n offset value byte w =
-    let sound = laws.well-at (m .ports) n w in (
+    let sound = laws.well-at (m .ports) n (laws.well-ports m w) in (
       read-accepted (bus.portAt n m) sound offset,
       write-accepted (bus.portAt n m) sound offset value,
       λ there. sym (laws.offer-number n byte m w there),
+    )
+
+-- The controller accepts what the table accepts, and the lines that a step sets.
+pub controller-claim :
+    (m : bus.Machine) (offset value lines : ℕ) → wellFormed m ≡ true →
+    (irq.read offset (m .irqmp) .refusal ≡ notRefused) ×
+    (irq.write offset value (m .irqmp) .refusal ≡ notRefused) ×
+    (irq.acknowledge (m .irqmp) .refusal ≡ notRefused) ×
+    (irq.setPending lines (m .irqmp) .refusal ≡ notRefused)
+controller-claim m offset value lines w =
+    let sound = laws.well-irqmp m w in (
+      controller.read-accepted (m .irqmp) sound offset,
+      controller.write-accepted (m .irqmp) sound offset value,
+      controller.acknowledge-accepted (m .irqmp) sound,
+      controller.set-accepted (m .irqmp) sound lines,
     )
 
 -- Of the board's table, by one computed test: no two windows overlap, each window of a port is one of a port that the board

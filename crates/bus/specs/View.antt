@@ -15,7 +15,7 @@ use Rattle.bus.specs.declared.machine.Call.{Call}
 
 -- "The build is a model of one GR712RC board"
 abbrev pub machineOf : Machine → bus.Machine
-machineOf m = record { board = gr712rc; ports = map portOf (m .ports); unit = m .unit }
+machineOf m = record { board = gr712rc; ports = map portOf (m .ports); unit = m .unit; irqmp = m .irqmp }
 
 abbrev pub answerOf : Answer → bus.Answer
 answerOf a =

@@ -1,14 +1,17 @@
-// A board: how many ports it has, and the windows that its devices sit in. The rules of the bus are the same for every
-// board; what differs is the table. (Should a board have fewer windows, some of length 0 fill its table: no address lies in
-// them.)
+// A board: how many ports it has, its interrupt lines, and the windows that its devices sit in. The rules of the bus are the same
+// for every board; what differs is the table. (Should a board have fewer windows, some of length 0 fill its table: no address lies
+// in them.)
 ghost use mathlib.Core.Path.{_≡_};
+ghost use mathlib.Core.Bool.{cond};
 ghost use Prim.Native.Nat.{_+_, _-_};
 ghost use Rattle.bus.specs.Board as board;
+ghost use Rattle.bus.specs.Time as time;
 
 // What answers in a window.
 pub enum Device {
     Port(u8),
     TimerUnit,
+    Controller,
 }
 
 pub struct Window {
@@ -23,9 +26,16 @@ pub(crate) enum Found {
     Nowhere,
 }
 
+// The interrupt line of each port, port 0 first, and of each timer, timer 1 first: the word with that line's bit.
+pub struct Lines {
+    pub ports: [u32; Lines::PORTS],
+    pub timers: [u32; Lines::TIMERS],
+}
+
 pub struct Board {
     // How many ports: they are 0 to one below this.
     pub ports: u8,
+    pub lines: Lines,
     pub windows: [Window; Board::WINDOWS],
 }
 
@@ -62,10 +72,14 @@ impl Window {
 }
 
 impl Board {
-    pub const WINDOWS: usize = 7;
+    pub const WINDOWS: usize = 8;
 
     pub(crate) const GR712RC: Board = Board {
         ports: 6,
+        lines: Lines {
+            ports: [1 << 2, 1 << 17, 1 << 18, 1 << 19, 1 << 20, 1 << 21],
+            timers: [1 << 8, 1 << 9, 1 << 10, 1 << 11],
+        },
         windows: [
             Window {
                 base: 0x8000_0100,
@@ -102,6 +116,11 @@ impl Board {
                 length: Window::LENGTH,
                 device: Device::TimerUnit,
             },
+            Window {
+                base: 0x8000_0200,
+                length: Window::LENGTH,
+                device: Device::Controller,
+            },
         ],
     };
 
@@ -120,4 +139,30 @@ impl Board {
         }
         found
     }
+}
+
+impl Lines {
+    pub const PORTS: usize = 6;
+
+    pub const TIMERS: usize = 4;
+
+    // The lines of the timers that had a pulse.
+    pub(crate) fn of_pulses(self, pulses: [u64; 4]) -> u32
+        ensures { λ r. ⌜ r ≡ time.linesOf (self .timers) (time.pulsed pulses) ⌝ }
+    {
+        let mut lines = 0;
+        let mut i = Self::TIMERS;
+        while 0 < i {
+            i -= 1;
+            lines = named(0 < pulses[i], self.timers[i]) | lines;
+        }
+        lines
+    }
+}
+
+// A line, or none.
+fn named(is: bool, line: u32) -> u32
+    ensures { λ r. ⌜ r ≡ cond is line 0 ⌝ }
+{
+    if is { line } else { 0 }
 }

@@ -1,21 +1,28 @@
-// The machine, six serial ports and a timer unit, as a state by value, and the calls on it. Each public call answers what
-// `specs/Machine.antt` and `specs/Call.antt` define, whatever the machine and the arguments.
+// The machine, six serial ports, a timer unit and an interrupt controller, as a state by value, and the calls on it. Each public
+// call answers what `specs/Machine.antt` and `specs/Call.antt` define, whatever the machine and the arguments.
 ghost use mathlib.Core.Path.{_≡_};
+ghost use mathlib.Core.Bool.{cond};
+ghost use lib.ListN.{getD};
+ghost use Rattle.devices.specs.Irqmp as irq;
 ghost use Rattle.bus.specs.Machine as bus;
 ghost use Rattle.bus.specs.Board.{gr712rc};
+ghost use Rattle.bus.specs.Time as time;
 ghost use Rattle.bus.specs.View.{machineOf, Conforms};
 ghost use Rattle.bus.specs.declared.machine.Call.the-variants as calls;
 use crate::board::Board;
+use crate::board::Lines;
 use crate::refusal;
 use crate::reply::Reply;
 use crate::route::Route;
 use devices::apbuart::Apbuart;
 use devices::gptimer::BeforeTick;
 use devices::gptimer::Gptimer;
+use devices::irqmp::Irqmp;
 
 pub struct Machine {
     pub ports: [Apbuart; Machine::PORTS],
     pub unit: Gptimer,
+    pub irqmp: Irqmp,
 }
 
 // A call on a machine.
@@ -26,6 +33,8 @@ pub enum Call {
     Advance(u64),
     Skip(u64),
     Reset,
+    // The processor takes an interrupt line.
+    Acknowledge,
     // A script record that is malformed or cut short: a call that is always refused.
     Malformed,
 }
@@ -39,7 +48,7 @@ pub struct Answer {
     pub byte: u8,
     // The line levels after the call, bit p for port p.
     pub levels: u8,
-    // The value read.
+    // The value read, or the line taken.
     pub value: u32,
     // The cycles passed, and the pulses of each timer in them, timer 1 first.
     pub cycles: u64,
@@ -70,6 +79,7 @@ impl Machine {
         Machine {
             ports: [port; Self::PORTS],
             unit: Gptimer::reset_state(),
+            irqmp: Irqmp::reset_state(),
         }
     }
 
@@ -86,7 +96,7 @@ impl Machine {
                 return false;
             }
         }
-        true
+        self.irqmp.well_formed()
     }
 
     // The line levels as they are, bit p for port p.
@@ -143,13 +153,47 @@ impl Machine {
         self.call(Call::Reset)
     }
 
+    pub fn acknowledge(self) -> Answer
+        ensures { λ r. ⌜ Conforms self calls.Acknowledge r ⌝ }
+    {
+        self.call(Call::Acknowledge)
+    }
+
     pub fn malformed(self) -> Answer
         ensures { λ r. ⌜ Conforms self calls.Malformed r ⌝ }
     {
         self.call(Call::Malformed)
     }
 
-    // Any of these calls. What changes is stored: a device, the prescaler's value alone, or at a reset the machine. The answer is
+    // The controller after a step of port n, whose level was `before` and is `after`: where it rose, the port's line is pending. The
+    // table is looked at only there.
+    pub fn after_port(n: usize, before: bool, after: bool, controller: Irqmp) -> Irqmp
+        ensures { λ r. ⌜ r ≡ irq.setPending (cond (time.rises before after) (getD (gr712rc .lines .ports) n 0) 0) controller .controller ⌝ }
+    {
+        if before {
+            return controller;
+        }
+        if after {
+            if n < Lines::PORTS {
+                let lines = Self::BOARD.lines;
+                return controller.set_pending(lines.ports[n]).controller;
+            }
+        }
+        controller
+    }
+
+    // The controller after a span in which the timers had these pulses: the lines of those that had one are pending.
+    pub fn after_pulses(pulses: [u64; 4], controller: Irqmp) -> Irqmp
+        ensures { λ r. ⌜ r ≡ irq.setPending (time.linesOf (gr712rc .lines .timers) (time.pulsed pulses)) controller .controller ⌝ }
+    {
+        let lines = Self::BOARD.lines.of_pulses(pulses);
+        if lines == 0 {
+            return controller;
+        }
+        controller.set_pending(lines).controller
+    }
+
+    // Any of these calls. What changes is stored: devices, the prescaler's value alone, or at a reset the machine. The answer is
     // made in one place, so the machine is copied in and out and not in between. The loop of a run (crate `script`) has the same
     // arms, on a machine of its own.
     pub fn call(mut self, call: Call) -> Answer
@@ -162,9 +206,12 @@ impl Machine {
                     reply = Reply::refused(number);
                 }
                 Route::Port { n, call } => {
-                    let answer = self.ports[n].call(call);
+                    let before = self.ports[n];
+                    let answer = before.call(call);
                     let port = answer.port;
                     self.ports[n] = port;
+                    let irqmp = Self::after_port(n, before.level, port.level, self.irqmp);
+                    self.irqmp = irqmp;
                     reply = Reply::of_port(answer);
                 }
                 Route::ReadUnit { offset } => {
@@ -176,6 +223,12 @@ impl Machine {
                     self.unit = unit;
                     reply = Reply::accepted(0);
                 }
+                Route::Controller(call) => {
+                    let answer = self.irqmp.call(call);
+                    let irqmp = answer.controller;
+                    self.irqmp = irqmp;
+                    reply = Reply::of_controller(answer);
+                }
                 Route::Pass(span) => match self.unit.before_tick(span) {
                     BeforeTick::Yes { cycles, scaler } => {
                         self.unit.scaler = scaler;
@@ -186,6 +239,8 @@ impl Machine {
                         let unit = elapsed.unit;
                         self.unit = unit;
                         let pulses = elapsed.pulses;
+                        let irqmp = Self::after_pulses(pulses, self.irqmp);
+                        self.irqmp = irqmp;
                         reply = Reply::of_span(elapsed.cycles, pulses);
                     }
                 },

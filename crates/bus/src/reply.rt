@@ -7,6 +7,7 @@ ghost use Rattle.bus.specs.Machine as bus;
 ghost use Rattle.bus.specs.Route as routes;
 use crate::refusal;
 use devices::apbuart;
+use devices::irqmp;
 
 pub struct Reply {
     pub refusal: u8,
@@ -59,7 +60,21 @@ impl Reply {
         }
     }
 
-    // A span of time that the timer unit passed.
+    // The controller's own answer, with its number.
+    pub fn of_controller(own: irqmp::Answer) -> Self
+        ensures { λ r. ⌜ routes.replied r ≡ routes.controllerAnswer own ⌝ }
+    {
+        Reply {
+            refusal: own.refusal,
+            emitted: false,
+            byte: 0,
+            value: own.value,
+            cycles: 0,
+            pulses: [0; 4],
+        }
+    }
+
+    // A span of time that the machine passed.
     pub fn of_span(cycles: u64, pulses: [u64; 4]) -> Self
         ensures { λ r. ⌜ routes.replied r ≡ routes.spanAnswer cycles pulses ⌝ }
     {

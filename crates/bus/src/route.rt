@@ -15,17 +15,22 @@ use crate::machine::Call;
 use crate::refusal;
 use devices::apbuart;
 use devices::gptimer::Span;
+use devices::irqmp;
 
+// The order is that of their numbers in the compiled program: with that of a refusal next to that of a port's call the compiler
+// makes a sum of the test between them, and then no jump of its own to each arm.
 pub enum Route {
-    // The call is refused with this number.
-    Refused(u8),
     // Port n answers its own call.
     Port { n: usize, call: apbuart::Call },
     // The timer unit answers an access.
     ReadUnit { offset: u32 },
     WriteUnit { offset: u32, value: u32 },
+    // The controller answers its own call.
+    Controller(irqmp::Call),
     // Time passes.
     Pass(Span),
+    // The call is refused with this number.
+    Refused(u8),
     // Every device is reset.
     Reset,
 }
@@ -45,6 +50,7 @@ impl Route {
             Call::Advance(cycles) => Route::Pass(Span::Cycles(cycles)),
             Call::Skip(limit) => Route::Pass(Span::ToPulse(limit)),
             Call::Reset => Route::Reset,
+            Call::Acknowledge => Route::Controller(irqmp::Call::Acknowledge),
             Call::Malformed => Route::Refused(refusal::BAD_RECORD),
         }
     }
@@ -105,6 +111,7 @@ impl Route {
                 call: apbuart::Call::Read { offset },
             },
             Device::TimerUnit => Route::ReadUnit { offset },
+            Device::Controller => Route::Controller(irqmp::Call::Read { offset }),
         }
     }
 
@@ -117,6 +124,7 @@ impl Route {
                 call: apbuart::Call::Write { offset, value },
             },
             Device::TimerUnit => Route::WriteUnit { offset, value },
+            Device::Controller => Route::Controller(irqmp::Call::Write { offset, value }),
         }
     }
 }

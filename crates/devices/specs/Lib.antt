@@ -11,3 +11,4 @@ pub mod Lists
 pub mod Apbuart
 pub mod Fifo
 pub mod Gptimer
+pub mod Irqmp

@@ -2,4 +2,5 @@
 pub mod apbuart;
 pub mod fifo;
 pub mod gptimer;
+pub mod irqmp;
 pub mod refusal;

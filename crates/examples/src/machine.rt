@@ -15,8 +15,10 @@ pub(crate) fn play(machine: Machine, line: Line) -> Machine {
           a  advance %;\
           s  skip %;\
           x  reset;\
+          k  acknowledge;\
           m  malformed;\
-          c  CONTROL of port % is #\n;",
+          c  CONTROL of port % is #\n;\
+          l  the controller's level is #\n;",
         line,
     );
     call(machine, line)
@@ -31,8 +33,10 @@ fn call(machine: Machine, line: Line) -> Machine {
         b'a' => machine.advance(line.first),
         b's' => machine.skip(line.first),
         b'x' => machine.reset(),
+        b'k' => machine.acknowledge(),
         b'm' => machine.malformed(),
         b'c' => return with_control(machine, byte(line.first), word(line.second)),
+        b'l' => return with_level(machine, word(line.first)),
         _ => return machine,
     };
     answered(answer)
@@ -43,6 +47,11 @@ fn with_control(mut machine: Machine, port: u8, word: u32) -> Machine {
     if i < Machine::PORTS {
         machine.ports[i].control = word;
     }
+    machine
+}
+
+fn with_level(mut machine: Machine, word: u32) -> Machine {
+    machine.irqmp.level = word;
     machine
 }
 

@@ -7,7 +7,7 @@ use lib.ListN.{getD}
 use Rattle.bus.specs.View.{machineOf}
 use Rattle.bus.specs.declared.machine.Machine.{Machine}
 use Rattle.script.specs.Number.{number, encoded}
-use Rattle.script.specs.Script.{Line, advanceLine, skipLine, resetLine}
+use Rattle.script.specs.Script.{Line, advanceLine, skipLine, resetLine, acknowledgeLine}
 use Rattle.script.specs.Run.{Ran}
 use Rattle.script.specs.declared.record.Fields.{Fields}
 
@@ -15,9 +15,9 @@ use Rattle.script.specs.declared.record.Fields.{Fields}
 abbrev pub reversed : (count n : ℕ) → ℕ
 reversed count n = number 0 count (reverse (encoded count n))
 
--- the lines of the table for kinds 4 to 6
-abbrev pub lines4to6 : Fields → List Line
-lines4to6 r = advanceLine r ∷ skipLine r ∷ resetLine r ∷ []
+-- the lines of the table for kinds 4 to 7
+abbrev pub lines4to7 : Fields → List Line
+lines4to7 r = advanceLine r ∷ skipLine r ∷ resetLine r ∷ acknowledgeLine r ∷ []
 
 -- numbers of 8 bytes, one behind the other
 abbrev pub longs : List ℕ → List ℕ

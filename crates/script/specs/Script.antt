@@ -1,4 +1,4 @@
--- Script records: paper 01, "Script and log".
+-- Script records: paper 01, "Script and log", with the kind that paper 02, No. 4, adds.
 pub mod Laws
 use Prim.Native.Nat.{ℕ, zero, suc}
 use mathlib.Core.Bool.{Bool, true, cond, _&&_}
@@ -6,7 +6,7 @@ use mathlib.Core.List.{List, [], _∷_}
 use lib.Dec.{eqb, ltb}
 use lib.ListN.{length, take, drop}
 use Rattle.bus.specs.declared.machine.Call.{Call}
-use Rattle.bus.specs.declared.machine.Call.the-variants.{Read, Write, Offer, Advance, Skip, Reset, Malformed}
+use Rattle.bus.specs.declared.machine.Call.the-variants.{Read, Write, Offer, Advance, Skip, Reset, Acknowledge, Malformed}
 use Rattle.script.specs.Number.{byte, number}
 use Rattle.script.specs.declared.record.Fields.{Fields}
 
@@ -32,6 +32,10 @@ SKIP = 5
 
 abbrev pub RESET : ℕ
 RESET = 6
+
+-- 02: "A new script kind 7 acknowledges"
+abbrev pub ACKNOWLEDGE : ℕ
+ACKNOWLEDGE = 7
 
 -- The numbers in a record, by their places: "Kind (byte 0) | Byte 1 | Byte 2 | Bytes 4-7 | Bytes 8-15".
 abbrev pub fields : List ℕ → Fields
@@ -108,8 +112,18 @@ resetLine r =
       blanks = r .byte_1 ∷ r .byte_2 ∷ r .byte_3 ∷ r .bytes_4_7 ∷ r .bytes_8_15 ∷ [];
     }
 
+-- 02: "bytes 1 to 15 are 0"
+abbrev pub acknowledgeLine : Fields → Line
+acknowledgeLine r =
+    record {
+      kind = ACKNOWLEDGE;
+      call = Acknowledge;
+      blanks = r .byte_1 ∷ r .byte_2 ∷ r .byte_3 ∷ r .bytes_4_7 ∷ r .bytes_8_15 ∷ [];
+    }
+
 abbrev pub table : Fields → List Line
-table r = readLine r ∷ writeLine r ∷ offerLine r ∷ advanceLine r ∷ skipLine r ∷ resetLine r ∷ []
+table r =
+    readLine r ∷ writeLine r ∷ offerLine r ∷ advanceLine r ∷ skipLine r ∷ resetLine r ∷ acknowledgeLine r ∷ []
 
 abbrev pub allZero : List ℕ → Bool
 allZero [] = true

@@ -39,7 +39,7 @@ use Rattle.script.specs.declared.format.Reason.{Reason}
 use Rattle.script.specs.declared.format.Verdict.the-variants.{Accepted, Refused}
 use Rattle.script.specs.declared.run.Ran.{Ran}
 pub use Rattle.bus.specs.Theorems.{skip-claim, well-claim, ill-claim, number-claim, accepted-claim, refusal-claim}
-pub use Rattle.bus.specs.Theorems.{port-claim, board-claim, window-claim}
+pub use Rattle.bus.specs.Theorems.{port-claim, controller-claim, board-claim, window-claim}
 
 -- Demand 3, whole. "This is a single claim about the list": what is seen of its calls, script records among them, are
 -- the slow run's answers, and the last machine is the slow run's; whatever the calls, refused and malformed ones

@@ -25,6 +25,8 @@ pub const SKIP: u8 = 5;
 
 pub const RESET: u8 = 6;
 
+pub const ACKNOWLEDGE: u8 = 7;
+
 // The numbers in a record, by their places.
 struct Fields {
     kind: u8,
@@ -76,7 +78,7 @@ impl Fields {
         if self.kind == OFFER {
             return self.offer();
         }
-        self.kinds_4_to_6()
+        self.kinds_4_to_7()
     }
 
     fn read(self) -> Call
@@ -116,9 +118,9 @@ impl Fields {
         Call::Malformed
     }
 
-    // They all leave bytes 1 to 7 blank: one test for the three.
-    fn kinds_4_to_6(self) -> Call
-        ensures { λ r. ⌜ r ≡ scripts.callAmong (self .kind) (private.lines4to6 self) ⌝ }
+    // They all leave bytes 1 to 7 blank, and the last two the others as well.
+    fn kinds_4_to_7(self) -> Call
+        ensures { λ r. ⌜ r ≡ scripts.callAmong (self .kind) (private.lines4to7 self) ⌝ }
     {
         if !is_blank(self.byte_1, self.byte_2, self.byte_3, self.bytes_4_7, 0) {
             return Call::Malformed;
@@ -129,10 +131,14 @@ impl Fields {
         if self.kind == SKIP {
             return Call::Skip(self.bytes_8_15);
         }
+        if self.bytes_8_15 != 0 {
+            return Call::Malformed;
+        }
         if self.kind == RESET {
-            if self.bytes_8_15 == 0 {
-                return Call::Reset;
-            }
+            return Call::Reset;
+        }
+        if self.kind == ACKNOWLEDGE {
+            return Call::Acknowledge;
         }
         Call::Malformed
     }

@@ -84,7 +84,7 @@ fn run_records(machine: Machine, script: &[u8], log: &mut [u8], count: usize) ->
 }
 
 // Every call on a well-formed machine leaves one, so the test for 9 is once a run. The machine is a local of this loop, and
-// each route is carried out here: only the device that changed is stored, or the prescaler's value alone, and the machine is not
+// each route is carried out here: only what changed is stored, a device or the prescaler's value alone, and the machine is not
 // moved. (`Machine::call` has the same arms, by value.)
 fn play(machine: Machine, script: &[u8], log: &mut [u8], count: usize) -> Machine
     requires { ⌜ scripts.recordLength * count < length (now script) + scripts.recordLength ⌝ }
@@ -102,9 +102,12 @@ fn play(machine: Machine, script: &[u8], log: &mut [u8], count: usize) -> Machin
         match route {
             Route::Refused(number) => entry::put(log, at, Reply::refused(number), machine),
             Route::Port { n, call } => {
-                let answer = machine.ports[n].call(call);
+                let before = machine.ports[n];
+                let answer = before.call(call);
                 let port = answer.port;
                 machine.ports[n] = port;
+                let irqmp = Machine::after_port(n, before.level, port.level, machine.irqmp);
+                machine.irqmp = irqmp;
                 entry::put(log, at, Reply::of_port(answer), machine);
             }
             Route::ReadUnit { offset } => {
@@ -116,6 +119,12 @@ fn play(machine: Machine, script: &[u8], log: &mut [u8], count: usize) -> Machin
                 machine.unit = unit;
                 entry::put(log, at, Reply::accepted(0), machine);
             }
+            Route::Controller(call) => {
+                let answer = machine.irqmp.call(call);
+                let irqmp = answer.controller;
+                machine.irqmp = irqmp;
+                entry::put(log, at, Reply::of_controller(answer), machine);
+            }
             Route::Pass(span) => match machine.unit.before_tick(span) {
                 BeforeTick::Yes { cycles, scaler } => {
                     machine.unit.scaler = scaler;
@@ -126,6 +135,8 @@ fn play(machine: Machine, script: &[u8], log: &mut [u8], count: usize) -> Machin
                     let unit = elapsed.unit;
                     machine.unit = unit;
                     let pulses = elapsed.pulses;
+                    let irqmp = Machine::after_pulses(pulses, machine.irqmp);
+                    machine.irqmp = irqmp;
                     entry::put(log, at, Reply::of_span(elapsed.cycles, pulses), machine);
                 }
             },

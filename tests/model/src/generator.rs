@@ -7,7 +7,7 @@ use std::ops::Range;
 
 use crate::random::Random;
 use crate::script::{Call, CALL_LENGTH, SCRIPT_HEADER};
-use crate::{timer, uart};
+use crate::{irqmp, timer, uart};
 
 #[derive(Clone, Copy, Debug, PartialEq, Eq)]
 pub enum Family {
@@ -33,9 +33,13 @@ pub enum Family {
     Stream,
     /// Timers in long use: chains with the pulses far away, and pulses beyond 32 and 64 bits.
     Chains,
+    /// The interrupt controller with all that raises its lines, and at most `SHORT_TOTAL` cycles.
+    Interrupts,
+    /// The interrupt controller by itself. No time passes.
+    Priorities,
 }
 
-pub const FAMILIES: [Family; 11] = [
+pub const FAMILIES: [Family; 13] = [
     Family::Timers,
     Family::Short,
     Family::Serial,
@@ -47,6 +51,8 @@ pub const FAMILIES: [Family; 11] = [
     Family::Long,
     Family::Stream,
     Family::Chains,
+    Family::Interrupts,
+    Family::Priorities,
 ];
 
 impl Family {
@@ -63,6 +69,8 @@ impl Family {
             Family::Long => "long",
             Family::Stream => "stream",
             Family::Chains => "chains",
+            Family::Interrupts => "interrupts",
+            Family::Priorities => "priorities",
         }
     }
 
@@ -79,7 +87,7 @@ impl Family {
                  skip, of any length"
             }
             Family::Windows => "accesses of all sizes at and around the windows' edges; no time passes",
-            Family::Mixed => "timers, serial and windows, mixed",
+            Family::Mixed => "timers, serial, interrupts and windows, mixed",
             Family::Damaged => "mixed with malformed records between, or each kind with each blank set",
             Family::Headers => "good and bad headers, some cut short, with a few records of mixed or none",
             Family::Bytes => "random bytes, most of them behind a good header",
@@ -93,24 +101,37 @@ impl Family {
                 "timers in long use: chains whose pulses are up to 2^144 cycles away, up to 2^64-1 pulses in \
                  a wait and more than 2^64 in a few, hundreds of waits"
             }
+            Family::Interrupts => {
+                "the interrupt controller: lines raised by CONTROL writes, by offered bytes and by pulses, \
+                 masked, cleared and acknowledged; at most 100,000 cycles in all, as in short"
+            }
+            Family::Priorities => {
+                "the interrupt controller by itself: pending and forced lines, up to all of them, at both \
+                 levels, the extended ones beside line 12, acknowledged in a row; no time passes"
+            }
         }
+    }
+
+    /// Whether time passes in its scripts, but so little that single cycles can pass it.
+    pub fn has_short_spans(self) -> bool {
+        matches!(self, Family::Short | Family::Interrupts)
     }
 }
 
-/// The most cycles that the advances and skips of a `Short` script ask for in all.
+/// The most cycles that the advances and skips of a script with short spans ask for in all.
 pub const SHORT_TOTAL: u64 = 100_000;
 
 /// The families of seeds in a row, over and over.
-const TURNS: [Family; 18] = {
+const TURNS: [Family; 22] = {
     use Family::*;
     [
-        Short, Timers, Mixed, Serial, Short, Windows, Timers, Headers, //
-        Short, Damaged, Timers, Serial, Short, Bytes, Mixed, Long, //
-        Stream, Chains,
+        Short, Timers, Mixed, Interrupts, Serial, Short, Windows, Priorities, //
+        Timers, Headers, Short, Damaged, Interrupts, Timers, Serial, Short, //
+        Priorities, Bytes, Mixed, Long, Stream, Chains,
     ]
 };
 
-/// The family of a seed. Any 18 seeds in a row hold every family.
+/// The family of a seed. Any 22 seeds in a row hold every family.
 pub fn family(seed: u64) -> Family {
     TURNS[(seed % TURNS.len() as u64) as usize]
 }
@@ -134,17 +155,25 @@ pub fn batch(seed: u64, records: usize) -> Vec<u8> {
 }
 
 const UNIT: u32 = 0x8000_0300;
+const CONTROLLER: u32 = 0x8000_0200;
 const PORTS: [u32; 6] = [0x8000_0100, 0x8010_0100, 0x8010_0200, 0x8010_0300, 0x8010_0400, 0x8010_0500];
 const WINDOW: u32 = 0x100;
 
+/// The lines of ports and timers, bit n for line n.
+const BOARD_LINES: u32 = 1 << 2 | 0xF << 8 | 0x1F << 17;
+/// The line that the lines from 16 up reach the processor as.
+const LINE_12: u32 = 1 << 12;
+const EXTENDED: u32 = 0xFFFF_0000;
+
 /// For each kind, the bytes of its record that must be 0.
-const BLANKS: [&[usize]; 7] = [
+const BLANKS: [&[usize]; 8] = [
     &[],
     &[2, 3, 8, 9, 10, 11, 12, 13, 14, 15],
     &[2, 3, 8, 9, 10, 11],
     &[3, 4, 5, 6, 7, 8, 9, 10, 11, 12, 13, 14, 15],
     &[1, 2, 3, 4, 5, 6, 7],
     &[1, 2, 3, 4, 5, 6, 7],
+    &[1, 2, 3, 4, 5, 6, 7, 8, 9, 10, 11, 12, 13, 14, 15],
     &[1, 2, 3, 4, 5, 6, 7, 8, 9, 10, 11, 12, 13, 14, 15],
 ];
 
@@ -233,6 +262,8 @@ impl Generator {
                 }
             },
             Family::Chains => self.repeat(4 * count, Generator::chain_step),
+            Family::Interrupts => self.repeat(4 * count, Generator::interrupt_step),
+            Family::Priorities => self.repeat(2 * count, Generator::priority_step),
         }
         self.read_everything();
         if self.random.one_in(4) {
@@ -250,10 +281,11 @@ impl Generator {
     }
 
     fn mixed_step(&mut self) {
-        match self.random.below(8) {
+        match self.random.below(10) {
             0..=2 => self.timer_step(),
             3..=5 => self.serial_step(),
             6 => self.window_step(),
+            7 | 8 => self.interrupt_step(),
             _ => self.pass(),
         }
     }
@@ -280,7 +312,7 @@ impl Generator {
                 if self.random.one_in(2) {
                     record.fill(0);
                 }
-                record[0] = self.random.pick(&[0, 7, 8, 9, 0x81, 0x86, 0xFF]);
+                record[0] = self.random.pick(&[0, 7, 8, 9, 0x81, 0x87, 0xFF]);
             }
             4 => record[self.random.below(16) as usize] = self.random.byte(),
             _ => record.fill_with(|| self.random.byte()),
@@ -303,8 +335,12 @@ impl Generator {
 
     fn tail(&mut self) {
         let length = self.random.below(16) as usize;
-        let call =
-            self.random.pick(&[Call::Reset, Call::Advance { cycles: 1 }, Call::Offer { port: 0, byte: 1 }]);
+        let call = self.random.pick(&[
+            Call::Reset,
+            Call::Acknowledge,
+            Call::Advance { cycles: 1 },
+            Call::Offer { port: 0, byte: 1 },
+        ]);
         let mut record = call.encode();
         if self.random.one_in(2) {
             record.fill_with(|| self.random.byte());
@@ -318,7 +354,7 @@ impl Generator {
         match self.random.below(15) {
             0 | 1 => self.set_up_timers(),
             2 => self.set_up_chain(),
-            3 if self.family != Family::Short && self.random.one_in(2) => {
+            3 if !self.family.has_short_spans() && self.random.one_in(2) => {
                 if self.random.one_in(2) {
                     self.set_up_long_chain();
                 } else {
@@ -342,7 +378,9 @@ impl Generator {
                     self.pass();
                 }
                 if self.random.one_in(2) {
-                    self.read_timers();
+                    self.see_timers();
+                } else if self.random.one_in(2) {
+                    self.see_lines();
                 }
             }
         }
@@ -445,7 +483,7 @@ impl Generator {
         }
         let limit = self.random.pick(&[u64::MAX, u64::MAX, u64::MAX - 1, 1 << 63]);
         self.push(Call::Skip { limit });
-        self.read_timers();
+        self.see_timers();
     }
 
     /// Most cycles tick, and timer 1 pulses with every tick, the others with every first, second or
@@ -497,7 +535,7 @@ impl Generator {
             let limit = self.at_or_beside(left);
             left = left.saturating_sub(self.wait(limit, true));
             if self.random.one_in(2) {
-                self.read_timers();
+                self.see_timers();
             }
             // With the pulse, the whole chain and the prescaler start again.
             if left == 0 {
@@ -527,7 +565,7 @@ impl Generator {
         let more = self.random.pick(&[0, 0, 1, 5, 1 << 20]);
         let stops = more == 0 || self.random.one_in(2);
         self.wait(left + more, stops);
-        self.read_timers();
+        self.see_timers();
         self.counters[timer - 1] = u32::MAX.into();
         self.scaler = self.scaler_reload;
         for _ in 0..=self.random.below(2) {
@@ -536,7 +574,7 @@ impl Generator {
             let left = self.cycles_to_underflow(timer - 1..timer);
             let (span, stops) = (self.at_or_beside(left), !self.random.one_in(4));
             self.wait(span, stops);
-            self.read_timers();
+            self.see_timers();
         }
     }
 
@@ -594,7 +632,7 @@ impl Generator {
     }
 
     fn prescaler_value(&mut self) -> u32 {
-        let wide = self.family != Family::Short || self.random.one_in(6);
+        let wide = !self.family.has_short_spans() || self.random.one_in(6);
         match self.random.below(8) {
             0 => 0,
             1 if wide => self.random.pick(&[0xFFFF, 0xFFFE, 0x1_0000, 0x1_0001, 0xFFFF_FFFF, 0xABCD_0003]),
@@ -609,7 +647,7 @@ impl Generator {
             0 => 0,
             1 => self.random.below(40) as u32,
             2 => self.random.pick(&[0xFFFE, 0xFFFF, 0x7FFF_FFFF, 0xFFFF_FFFE, 0xFFFF_FFFF]),
-            3 if self.family != Family::Short => self.random.word() >> self.random.below(32),
+            3 if !self.family.has_short_spans() => self.random.word() >> self.random.below(32),
             _ => self.random.below(6) as u32,
         }
     }
@@ -630,9 +668,9 @@ impl Generator {
         self.wait(span, stops);
     }
 
-    /// Advances, or skips where it may stop; in a `Short` script not too far. Returns what it asked for.
+    /// Advances, or skips where it may stop; not too far where spans are short. Returns what it asked for.
     fn wait(&mut self, mut span: u64, stops: bool) -> u64 {
-        if self.family == Family::Short {
+        if self.family.has_short_spans() {
             // A period of 65536 fits into the total once.
             let most = if self.random.one_in(20) { 70_000 } else { 2_000 };
             span = span.min(most).min(self.cycles_left);
@@ -644,7 +682,7 @@ impl Generator {
 
     fn span(&mut self) -> u64 {
         let near = self.random.pick(&[0, 0, 0, 1, u64::MAX, 2, u64::MAX - 1]);
-        match self.random.below(if self.family == Family::Short { 7 } else { 10 }) {
+        match self.random.below(if self.family.has_short_spans() { 7 } else { 10 }) {
             0 => self.random.below(4),
             1 => self.random.below(50),
             2 => self.scaler.wrapping_add(near),
@@ -677,6 +715,14 @@ impl Generator {
         }
     }
 
+    /// Looks at the timers after time has passed, and at the lines that they may have raised.
+    fn see_timers(&mut self) {
+        self.read_timers();
+        if self.random.one_in(2) {
+            self.see_lines();
+        }
+    }
+
     // Timers in long use.
 
     fn chain_step(&mut self) {
@@ -689,7 +735,7 @@ impl Generator {
         }
         for _ in 0..=self.random.below(5) {
             self.pass_far();
-            self.read_timers();
+            self.see_timers();
         }
     }
 
@@ -764,7 +810,7 @@ impl Generator {
         }
         let limit = self.random.pick(&[u64::MAX, u64::MAX, u64::MAX - 1, 1 << 63]);
         self.push(Call::Skip { limit });
-        self.read_timers();
+        self.see_timers();
     }
 
     /// A chain of four timers with the first pulse, the only one, in cycle 2^64 or a few cycles or ticks
@@ -795,8 +841,9 @@ impl Generator {
         }
         let limit = self.random.pick(&[u64::MAX, u64::MAX, u64::MAX, u64::MAX - 1]);
         self.push(Call::Skip { limit });
-        self.read_timers();
+        self.see_timers();
         self.push(Call::Skip { limit: 3 });
+        self.read(CONTROLLER + irqmp::PENDING);
     }
 
     /// The pulses of each wait or of all five do not fit into 32 bits, or those of all five into 64.
@@ -804,10 +851,18 @@ impl Generator {
         self.set_up_many_pulses();
         let few = self.random.below(1000);
         let more = 1 << (35 + self.random.below(29));
-        let cycles = self.random.pick(&[u64::MAX, u64::MAX, u64::MAX - few, (1 << 32) + few, more + few]);
+        let cycles = self.random.pick(&[
+            u64::MAX,
+            u64::MAX,
+            u64::MAX - few,
+            1 << 32,
+            (1 << 32) + few,
+            more,
+            more + few,
+        ]);
         for _ in 0..5 {
             self.push(Call::Advance { cycles });
-            self.read_timers();
+            self.see_timers();
         }
     }
 
@@ -821,7 +876,7 @@ impl Generator {
             };
             self.push(call);
         }
-        self.read_timers();
+        self.see_timers();
     }
 
     // Serial ports.
@@ -831,7 +886,7 @@ impl Generator {
         let port = self.random.pick(&[0, 0, 0, 3, 3, 3, 1, 2, 4, 5]);
         let base = PORTS[port];
         let run = if self.random.one_in(4) { 12 } else { 1 + self.random.below(3) };
-        match self.random.below(16) {
+        match self.random.below(18) {
             0..=2 => {
                 let mut value = self.random.below(16) as u32;
                 value |= self.random.pick(&[0, uart::RE, uart::RE]);
@@ -875,7 +930,8 @@ impl Generator {
             }
             13 => self.read_port(base),
             14 => self.drain_raised(port, run),
-            _ => self.switch_receiver_off(port, run),
+            15 => self.switch_receiver_off(port, run),
+            _ => self.see_lines(),
         }
     }
 
@@ -923,6 +979,9 @@ impl Generator {
             _ => self.push(Call::Offer { port: 6, byte: 1 }),
         }
         self.read_port(base);
+        if self.random.one_in(2) {
+            self.see_lines();
+        }
     }
 
     fn read_port(&mut self, base: u32) {
@@ -934,6 +993,7 @@ impl Generator {
     /// Reads every register, and empties the receive queues.
     fn read_everything(&mut self) {
         self.read_timers();
+        self.read_controller();
         for port in [0, 1, 2, 3, 4, 5] {
             self.read_port(PORTS[port]);
             if port == 0 || port == 3 || self.random.one_in(4) {
@@ -942,6 +1002,342 @@ impl Generator {
                     self.read(PORTS[port] + uart::DATA);
                 }
                 self.read_port(PORTS[port]);
+            }
+        }
+        self.read(CONTROLLER + irqmp::PENDING);
+    }
+
+    // Interrupt controller.
+
+    /// All that raises lines, and what the controller does with them.
+    fn interrupt_step(&mut self) {
+        match self.random.below(16) {
+            0..=3 => self.raise_by_control(),
+            4..=6 => self.raise_by_bytes(),
+            7..=11 => self.raise_by_pulses(),
+            _ => self.priority_step(),
+        }
+    }
+
+    /// The controller by itself.
+    fn priority_step(&mut self) {
+        match self.random.below(24) {
+            0..=4 => self.two_lines(),
+            5..=10 => self.around_line_12(),
+            11 | 12 => self.many_lines(),
+            13..=15 => self.write_controller_register(),
+            16 => self.see_lines(),
+            17 => self.nothing_waits(),
+            18 => self.reset_in_use(),
+            19 => self.sweep_controller(),
+            _ => {
+                let address = self.address_near(CONTROLLER);
+                self.access_of_any_size(address);
+                self.read_controller();
+            }
+        }
+    }
+
+    fn read_controller(&mut self) {
+        for register in [
+            irqmp::LEVEL,
+            irqmp::PENDING,
+            irqmp::FORCE,
+            irqmp::CLEAR,
+            irqmp::MASK,
+            irqmp::EXTENDED_ACKNOWLEDGE,
+        ] {
+            self.read(CONTROLLER + register);
+        }
+    }
+
+    /// Looks at the lines that were raised. Most are taken or cleared, so that the next rise shows.
+    fn see_lines(&mut self) {
+        self.read(CONTROLLER + irqmp::PENDING);
+        let lines = self.lines();
+        match self.random.below(8) {
+            0 | 1 => return,
+            2 | 3 => self.write(CONTROLLER + irqmp::CLEAR, u32::MAX),
+            4 => self.write(CONTROLLER + irqmp::PENDING, 0),
+            5 => {
+                let register = self.random.pick(&[irqmp::CLEAR, irqmp::CLEAR, irqmp::PENDING]);
+                self.write(CONTROLLER + register, lines);
+            }
+            _ => {
+                let mask = self.random.pick(&[u32::MAX, u32::MAX, BOARD_LINES, lines]);
+                self.write(CONTROLLER + irqmp::MASK, mask);
+                let times = 1 + self.random.below(4);
+                return self.acknowledge(times);
+            }
+        }
+        if self.random.one_in(2) {
+            self.read_controller();
+        }
+    }
+
+    /// Acknowledges a few times in a row. What each one leaves is looked at, or only the end.
+    fn acknowledge(&mut self, times: u64) {
+        let look = self.random.below(4);
+        for _ in 0..times {
+            self.push(Call::Acknowledge);
+            match look {
+                0 => {}
+                1 => self.read_controller(),
+                _ => {
+                    self.read(CONTROLLER + irqmp::EXTENDED_ACKNOWLEDGE);
+                    let register = self.random.pick(&[irqmp::PENDING, irqmp::PENDING, irqmp::FORCE]);
+                    self.read(CONTROLLER + register);
+                }
+            }
+        }
+        if look != 1 {
+            self.read_controller();
+        }
+    }
+
+    fn set_up_controller(&mut self, level: u32, pending: u32, force: u32, mask: u32) {
+        self.write(CONTROLLER + irqmp::LEVEL, level);
+        self.write(CONTROLLER + irqmp::PENDING, pending);
+        self.write(CONTROLLER + irqmp::FORCE, force);
+        self.write(CONTROLLER + irqmp::MASK, mask);
+        if self.random.one_in(4) {
+            self.read_controller();
+        }
+    }
+
+    /// A word of lines, few or many.
+    fn lines(&mut self) -> u32 {
+        let (any, other) = (self.random.word(), self.random.word());
+        let line = 1 << self.random.below(32);
+        match self.random.below(12) {
+            0 => 0,
+            1 => u32::MAX,
+            2 => self.random.pick(&[1, LINE_12, 0xF000, 0xFFFE, 0xFFFF, EXTENDED, EXTENDED | LINE_12]),
+            3 | 4 => line,
+            5 => !line,
+            6 => any & BOARD_LINES,
+            7 => any & other,
+            8 => any | other,
+            9 => any & other & self.random.word(),
+            _ => any,
+        }
+    }
+
+    /// Two lines, each pending or forced or both, which mostly wait, so that one goes before the other;
+    /// and more acknowledges than they need.
+    fn two_lines(&mut self) {
+        let (mut pending, mut force) = (0, 0);
+        let lines: [u32; 2] = [(); 2].map(|()| 1 << (1 + self.random.below(31)));
+        for line in lines {
+            match self.random.below(4) {
+                0 => force |= line,
+                1 => (pending, force) = (pending | line, force | line),
+                _ => pending |= line,
+            }
+        }
+        let (level, hidden) = (self.lines(), self.lines());
+        let level = self.random.pick(&[lines[0], !lines[0], level]);
+        let mask = self.random.pick(&[pending | force, u32::MAX, u32::MAX, !hidden]);
+        self.set_up_controller(level, pending, force, mask);
+        let times = 1 + self.random.below(5);
+        self.acknowledge(times);
+    }
+
+    /// Extended lines, or none, beside line 12 pending or forced or both, beside those that go before 12
+    /// at its level and those that go after it; with and without 12's mask and level bits.
+    fn around_line_12(&mut self) {
+        let extended = 1 << (16 + self.random.below(16));
+        let some = self.lines() & EXTENDED;
+        let mut pending = self.random.pick(&[0, extended, extended, extended | some, some]);
+        let mut force = 0;
+        for group in [LINE_12, 0xE000, 0x0FFE] {
+            if self.random.one_in(2) {
+                continue;
+            }
+            let lines = group & (self.random.word() | LINE_12);
+            match self.random.below(4) {
+                0 => force |= lines,
+                1 => (pending, force) = (pending | lines, force | lines),
+                _ => pending |= lines,
+            }
+        }
+        let (any_level, any) = (self.random.word(), self.random.word());
+        let level = self.random.pick(&[0, LINE_12, LINE_12, 0xE000, 0xF000, any_level]);
+        let hidden = self.random.pick(&[0, LINE_12, LINE_12, extended, any]);
+        self.set_up_controller(level, pending, force, !hidden);
+        let times = 2 + self.random.below(6);
+        self.acknowledge(times);
+    }
+
+    /// Many lines at once, now and then all of them, acknowledged until none waits.
+    fn many_lines(&mut self) {
+        let [level, pending, force, mask] = [(); 4].map(|()| self.lines());
+        if self.random.one_in(6) {
+            self.set_up_controller(level, u32::MAX, u32::MAX, u32::MAX);
+            // 31 pending ones and 15 forced ones, and one more.
+            return self.acknowledge(47);
+        }
+        let mask = if self.random.one_in(2) { u32::MAX } else { mask };
+        self.set_up_controller(level, pending, force, mask);
+        let times = 1 + self.random.below(12);
+        self.acknowledge(times);
+    }
+
+    /// A word to a register, or to an offset without one.
+    fn write_controller_register(&mut self) {
+        let nowhere = 4 * self.random.below(64) as u32;
+        let register = self.random.pick(&[
+            irqmp::LEVEL,
+            irqmp::PENDING,
+            irqmp::FORCE,
+            irqmp::FORCE,
+            irqmp::CLEAR,
+            irqmp::CLEAR,
+            irqmp::MASK,
+            irqmp::EXTENDED_ACKNOWLEDGE,
+            irqmp::EXTENDED_ACKNOWLEDGE,
+            nowhere,
+        ]);
+        let lines = self.lines();
+        let number = self.random.below(32) as u32;
+        let value = self.random.pick(&[lines, lines, number]);
+        self.write(CONTROLLER + register, value);
+        if self.random.one_in(2) {
+            self.read(CONTROLLER + register);
+        }
+        self.read_controller();
+    }
+
+    /// Every word of the window, with each register set. Most writes to the others are to be ignored.
+    fn sweep_controller(&mut self) {
+        let (level, force) = (self.lines(), self.lines());
+        let pending = self.lines() | 3 << (16 + self.random.below(15));
+        self.set_up_controller(level | LINE_12, pending, force | LINE_12, u32::MAX);
+        self.push(Call::Acknowledge);
+        for offset in (0..WINDOW).step_by(4) {
+            let stored = [irqmp::LEVEL, irqmp::PENDING, irqmp::FORCE, irqmp::CLEAR, irqmp::MASK];
+            if !stored.contains(&offset) && self.random.one_in(2) {
+                let value = self.lines();
+                self.write(CONTROLLER + offset, value);
+            }
+            self.read(CONTROLLER + offset);
+        }
+        self.read_controller();
+    }
+
+    /// Acknowledges in vain: no line, or none but masked ones, after an extended line was taken.
+    fn nothing_waits(&mut self) {
+        let extended = 1 << (16 + self.random.below(16));
+        let (level, others) = (self.lines(), self.lines());
+        self.set_up_controller(level, extended, 0, extended);
+        self.push(Call::Acknowledge);
+        match self.random.below(3) {
+            0 => self.set_up_controller(level, others, others, !others),
+            1 => self.set_up_controller(level, others, others, 1),
+            _ => self.set_up_controller(level, 0, EXTENDED, u32::MAX),
+        }
+        let times = 1 + self.random.below(3);
+        self.acknowledge(times);
+    }
+
+    /// A reset with every register set and a port's level at 1.
+    fn reset_in_use(&mut self) {
+        let port = self.random.pick(&PORTS);
+        let (level, pending, force) = (self.lines(), self.lines(), self.lines());
+        self.set_up_controller(level | LINE_12, pending | EXTENDED, force | 0xF000, u32::MAX);
+        self.push(Call::Acknowledge);
+        self.write(port + uart::CONTROL, uart::TI);
+        self.reset();
+        self.read_controller();
+        self.write(CONTROLLER + irqmp::MASK, u32::MAX);
+        self.acknowledge(2);
+    }
+
+    /// A port's level goes up and down, or stays, by CONTROL writes; now and then with bytes waiting.
+    fn raise_by_control(&mut self) {
+        let port = self.random.below(6) as usize;
+        let base = PORTS[port];
+        if self.random.one_in(2) {
+            self.write(base + uart::CONTROL, uart::RE);
+            for byte in 0..=self.random.below(2) as u8 {
+                self.push(Call::Offer { port: port as u8, byte });
+            }
+        }
+        for _ in 0..2 + self.random.below(5) {
+            let value = self.random.pick(&[0, 0, uart::RI, uart::TI, uart::TI, uart::RI | uart::TI]);
+            let others = self.random.pick(&[0, uart::RE, uart::TE, uart::TE, 0xFFFF_FFF0]);
+            self.write(base + uart::CONTROL, value | others);
+            if !self.random.one_in(3) {
+                self.see_lines();
+            }
+            // It must raise nothing.
+            if self.random.one_in(4) {
+                let register = self.random.pick(&[uart::DATA, uart::DATA, uart::STATUS, uart::SCALER]);
+                self.write(base + register, 0x55);
+                self.read(CONTROLLER + irqmp::PENDING);
+            }
+        }
+    }
+
+    /// A port's level goes up by a byte, and stays while bytes come and go; it goes down when CONTROL is
+    /// written with none waiting.
+    fn raise_by_bytes(&mut self) {
+        let port = self.random.below(6) as usize;
+        let base = PORTS[port];
+        let control = self.random.pick(&[uart::RE | uart::RI, uart::RE | uart::RI, uart::RE]);
+        for _ in 0..2 + self.random.below(5) {
+            match self.random.below(8) {
+                0..=2 => {
+                    let byte = self.random.byte();
+                    self.push(Call::Offer { port: port as u8, byte });
+                }
+                3 | 4 => {
+                    for _ in 0..self.random.pick(&[1, 2, 9]) {
+                        self.read(base + uart::DATA);
+                    }
+                }
+                5 => self.write(base + uart::DATA, 0x55),
+                _ => {
+                    self.write(base + uart::CONTROL, uart::RE);
+                    for _ in 0..self.random.pick(&[0, 9]) {
+                        self.read(base + uart::DATA);
+                    }
+                    self.write(base + uart::CONTROL, control);
+                    self.push(Call::Offer { port: port as u8, byte: 1 });
+                }
+            }
+            if !self.random.one_in(3) {
+                self.see_lines();
+            }
+        }
+    }
+
+    /// Timers with small periods, some or all with IE: one, or a few, pulse in a wait, once or more.
+    fn raise_by_pulses(&mut self) {
+        let (value, reload) = (self.random.below(3) as u16, self.random.below(3) as u16);
+        self.set_prescaler(value, reload);
+        for timer in 1..=timer::TIMERS {
+            let counter = self.random.below(6) as u32;
+            let control = self.random.pick(&[
+                0,
+                timer::EN | timer::RS,
+                timer::EN | timer::IE,
+                timer::EN | timer::RS | timer::IE,
+                timer::EN | timer::RS | timer::IE,
+                timer::EN | timer::RS | timer::IE | timer::CH,
+            ]);
+            let reload = self.random.pick(&[counter, 1, 20]);
+            self.set_up_timer(timer, counter, reload, control);
+        }
+        if self.random.one_in(3) {
+            let mask = self.lines();
+            self.write(CONTROLLER + irqmp::MASK, mask);
+        }
+        for _ in 0..1 + self.random.below(5) {
+            let (span, stops) = (self.random.pick(&[1, 2, 3, 5, 8, 13, 60]), self.random.one_in(2));
+            self.wait(span, stops);
+            if !self.random.one_in(4) {
+                self.see_lines();
             }
         }
     }
@@ -971,7 +1367,8 @@ impl Generator {
         }
     }
 
-    /// More resets than 8 bits count, each of a port in use and of timers that were set up.
+    /// More resets than 8 bits count, each of a port in use, of timers that were set up and of a
+    /// controller that may have a pending line.
     fn stream_with_resets(&mut self) {
         for _ in 0..300 + self.random.below(100) {
             let port = self.random.below(6) as usize;
@@ -981,6 +1378,7 @@ impl Generator {
             self.reset();
             self.read_port(PORTS[port]);
             self.read_timers();
+            self.read(CONTROLLER + irqmp::PENDING);
         }
     }
 
@@ -1069,7 +1467,16 @@ impl Generator {
     // Windows.
 
     fn window_step(&mut self) {
-        let address = self.address();
+        let base = match self.random.below(4) {
+            0 => UNIT,
+            1 => CONTROLLER,
+            _ => self.random.pick(&PORTS),
+        };
+        let address = self.address_near(base);
+        self.access_of_any_size(address);
+    }
+
+    fn access_of_any_size(&mut self, address: u32) {
         let size = match self.random.below(4) {
             0 | 1 => 4,
             2 => self.random.pick(&[0, 1, 2, 3, 4, 5, 8, 255]),
@@ -1083,8 +1490,8 @@ impl Generator {
         }
     }
 
-    fn address(&mut self) -> u32 {
-        let base = if self.random.one_in(3) { UNIT } else { self.random.pick(&PORTS) };
+    /// An address at or around a window, or anywhere.
+    fn address_near(&mut self, base: u32) -> u32 {
         let few = self.random.below(9) as u32;
         match self.random.below(8) {
             0 | 1 => base + 4 * self.random.below(20) as u32,
@@ -1119,6 +1526,7 @@ impl Generator {
             self.push(Call::Offer { port: 0, byte });
         }
         self.write(UNIT + timer::SCALER, 3);
+        self.set_up_controller(0, u32::MAX, u32::MAX, u32::MAX);
         let calls = [
             Call::Read { size: 4, address: PORTS[0] + uart::DATA },
             Call::Write { size: 4, address: PORTS[0] + uart::DATA, value: 0x41 },
@@ -1127,6 +1535,7 @@ impl Generator {
             Call::Advance { cycles: 1 },
             Call::Skip { limit: 2 },
             Call::Reset,
+            Call::Acknowledge,
         ];
         for call in calls {
             for &blank in BLANKS[usize::from(call.encode()[0])] {
@@ -1135,7 +1544,7 @@ impl Generator {
                 self.script.extend_from_slice(&record);
             }
         }
-        for kind in [0, 7, 8, 9, 10, 0x10, 0x20, 0x40, 0x80, 0x86, 0xFF] {
+        for kind in [0, 8, 9, 10, 0x10, 0x20, 0x40, 0x80, 0x86, 0x87, 0xFF] {
             let mut record = [0; CALL_LENGTH];
             record[0] = kind;
             self.script.extend_from_slice(&record);
@@ -1177,7 +1586,7 @@ impl Generator {
             let mut record = [0; CALL_LENGTH];
             record.fill_with(|| self.random.byte());
             if shape >= 2 {
-                record[0] = 1 + self.random.below(6) as u8;
+                record[0] = 1 + self.random.below(7) as u8;
             }
             if shape == 3 {
                 for &blank in BLANKS[usize::from(record[0])] {
@@ -1196,7 +1605,12 @@ impl Generator {
         let register = UNIT + 4 * self.random.below(20) as u32;
         let call = match self.random.below(100) {
             0..=19 => Call::Read { size: 4, address: base + 4 * self.random.below(4) as u32 },
-            20..=39 => Call::Read { size: 4, address: register },
+            20..=37 => Call::Read { size: 4, address: register },
+            38 => Call::Read { size: 4, address: CONTROLLER + irqmp::PENDING },
+            39 => match self.random.below(4) {
+                0 => Call::Write { size: 4, address: CONTROLLER + irqmp::MASK, value: BOARD_LINES },
+                _ => Call::Acknowledge,
+            },
             40..=54 => Call::Write { size: 4, address: base + uart::DATA, value: self.random.word() },
             55..=57 => {
                 Call::Write { size: 4, address: base + uart::CONTROL, value: uart::RE | uart::TE | uart::RI }

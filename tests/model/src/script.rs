@@ -33,6 +33,7 @@ pub enum Call {
     Advance { cycles: u64 },
     Skip { limit: u64 },
     Reset,
+    Acknowledge,
 }
 
 impl Call {
@@ -52,6 +53,8 @@ impl Call {
             [4, 0, 0, 0, 0, 0, 0, 0, cycles @ ..] => Call::Advance { cycles: u64::from_be_bytes(cycles) },
             [5, 0, 0, 0, 0, 0, 0, 0, limit @ ..] => Call::Skip { limit: u64::from_be_bytes(limit) },
             [6, 0, 0, 0, 0, 0, 0, 0, 0, 0, 0, 0, 0, 0, 0, 0] => Call::Reset,
+            // 02, No. 4: "A new script kind 7 acknowledges: bytes 1 to 15 are 0".
+            [7, 0, 0, 0, 0, 0, 0, 0, 0, 0, 0, 0, 0, 0, 0, 0] => Call::Acknowledge,
             _ => return None,
         })
     }
@@ -78,6 +81,7 @@ impl Call {
                 record[8..].copy_from_slice(&limit.to_be_bytes());
             }
             Call::Reset => record[0] = 6,
+            Call::Acknowledge => record[0] = 7,
         }
         record
     }
@@ -124,24 +128,25 @@ pub fn execute(board: &mut Board, record: &[u8; CALL_LENGTH], mode: Mode) -> Ent
 
 fn apply(board: &mut Board, call: Call, mode: Mode) -> Result<Entry, Refusal> {
     let mut entry = Entry::default();
-    let unit = &mut board.timer_unit;
     match call {
         Call::Read { size, address } => entry.value = board.read(address, size)?,
         Call::Write { size, address, value } => entry.emitted = board.write(address, size, value)?,
         Call::Offer { port, byte } => board.offer(port, byte)?,
         Call::Advance { cycles } => {
             entry.passed = match mode {
-                Mode::Arithmetic => unit.advance(cycles),
-                Mode::SingleCycle => slow::advance(unit, cycles),
+                Mode::Arithmetic => board.advance(cycles),
+                Mode::SingleCycle => slow::advance(board, cycles),
             }
         }
         Call::Skip { limit } => {
             entry.passed = match mode {
-                Mode::Arithmetic => unit.skip(limit),
-                Mode::SingleCycle => slow::skip(unit, limit),
+                Mode::Arithmetic => board.skip(limit),
+                Mode::SingleCycle => slow::skip(board, limit),
             }
         }
+        // It sets the levels and works none of them out, so nothing rises.
         Call::Reset => *board = Board::RESET,
+        Call::Acknowledge => entry.value = board.irqmp.acknowledge(),
     }
     Ok(entry)
 }

@@ -1,10 +1,18 @@
-//! The slow run's time: one cycle after another, by the rule as 01 and 02, No. 3 write it. It shares
-//! the registers with module `timer`, but none of its arithmetic.
+//! The slow run's time: one cycle of the machine after another, by the rule as 01 and 02, No. 3 and
+//! No. 4 write it. It shares the registers with module `timer` and the lines with module `board`, but
+//! none of their arithmetic.
 
+use crate::board::Board;
 use crate::timer::{Passed, TimerUnit, CH, EN, IE, IP, RS, TIMERS};
 
-/// One cycle; tells which timers pulsed.
-pub fn cycle(unit: &mut TimerUnit) -> [bool; TIMERS] {
+/// One cycle of the machine; tells which timers pulsed.
+pub fn cycle(board: &mut Board) -> [bool; TIMERS] {
+    let pulsed = unit_cycle(&mut board.timer_unit);
+    board.raise_timers(pulsed);
+    pulsed
+}
+
+fn unit_cycle(unit: &mut TimerUnit) -> [bool; TIMERS] {
     let mut pulsed = [false; TIMERS];
     // "if the prescaler value is 0 there is a tick [..] Otherwise it falls by 1."
     if unit.scaler > 0 {
@@ -46,26 +54,26 @@ pub fn cycle(unit: &mut TimerUnit) -> [bool; TIMERS] {
 }
 
 /// "An advance does one cycle as often as its span says."
-pub fn advance(unit: &mut TimerUnit, cycles: u64) -> Passed {
+pub fn advance(board: &mut Board, cycles: u64) -> Passed {
     let mut passed = Passed::default();
     while passed.cycles < cycles {
-        step(unit, &mut passed);
+        step(board, &mut passed);
     }
     passed
 }
 
 /// "A skip does one cycle after another while none had a pulse of any timer and the limit isn't
 /// reached."
-pub fn skip(unit: &mut TimerUnit, limit: u64) -> Passed {
+pub fn skip(board: &mut Board, limit: u64) -> Passed {
     let mut passed = Passed::default();
     while passed.pulses == [0; TIMERS] && passed.cycles < limit {
-        step(unit, &mut passed);
+        step(board, &mut passed);
     }
     passed
 }
 
-fn step(unit: &mut TimerUnit, passed: &mut Passed) {
-    let pulsed = cycle(unit);
+fn step(board: &mut Board, passed: &mut Passed) {
+    let pulsed = cycle(board);
     passed.cycles += 1;
     for (count, pulsed) in passed.pulses.iter_mut().zip(pulsed) {
         *count += u64::from(pulsed);

@@ -1,5 +1,5 @@
-//! GPTIMER unit: a prescaler and four timers, counting as 02, No. 3 says. Time passes by division;
-//! module `slow` has the single cycles.
+//! GPTIMER unit: a prescaler and four timers, counting as 02, No. 3 says. Time passes by division, in two
+//! parts: cycles at the prescaler, and its ticks at the timers. Module `slow` has the single cycles.
 
 pub const SCALER: u32 = 0x00;
 pub const SCALER_RELOAD: u32 = 0x04;
@@ -190,34 +190,6 @@ impl TimerUnit {
         }
     }
 
-    /// Passes a number of cycles.
-    pub fn advance(&mut self, cycles: u64) -> Passed {
-        let mut passed = Passed { cycles, pulses: [0; TIMERS] };
-        let ticks = self.pass_prescaler(cycles);
-        if ticks == 0 {
-            return passed;
-        }
-        // "An enabled timer counts if CH is 0, or if timer n-1 underflowed in this same tick. Timer
-        // 1 ignores CH." So a timer's counts are all ticks, or as many as timer n-1 has underflows
-        // in them.
-        let mut underflows = ticks;
-        for (timer, pulses) in self.timers.iter_mut().zip(&mut passed.pulses) {
-            let counts = if timer.has(CH) { underflows } else { ticks };
-            underflows = timer.count(counts);
-            if timer.has(IE) {
-                *pulses = underflows;
-            }
-        }
-        passed
-    }
-
-    /// Passes "the fewest cycles, one or more, whose last has a pulse", or the limit if none is
-    /// within it.
-    pub fn skip(&mut self, limit: u64) -> Passed {
-        let cycles = self.cycles_to_pulse().map_or(limit, |cycles| cycles.min(limit));
-        self.advance(cycles)
-    }
-
     /// "A tick now sets the prescaler value to the reload even where that is 0, and then each cycle
     /// ticks."
     fn prescaler(&self) -> Countdown {
@@ -225,14 +197,31 @@ impl TimerUnit {
     }
 
     /// Lets the prescaler pass a number of cycles and returns the ticks among them.
-    fn pass_prescaler(&mut self, cycles: u64) -> u64 {
+    pub fn pass_prescaler(&mut self, cycles: u64) -> u64 {
         let (value, ticks) = self.prescaler().after(cycles);
         self.scaler = value as u16;
         ticks
     }
 
+    /// Lets the timers pass a number of ticks, and returns each one's pulses in them.
+    pub fn pass_ticks(&mut self, ticks: u64) -> [u64; TIMERS] {
+        let mut pulses = [0; TIMERS];
+        // "An enabled timer counts if CH is 0, or if timer n-1 underflowed in this same tick. Timer
+        // 1 ignores CH." So a timer's counts are all ticks, or as many as timer n-1 has underflows
+        // in them.
+        let mut underflows = ticks;
+        for (timer, pulses) in self.timers.iter_mut().zip(&mut pulses) {
+            let counts = if timer.has(CH) { underflows } else { ticks };
+            underflows = timer.count(counts);
+            if timer.has(IE) {
+                *pulses = underflows;
+            }
+        }
+        pulses
+    }
+
     /// The first cycle, counted from 1, with a pulse; none if there is none within 64 bits.
-    fn cycles_to_pulse(&self) -> Option<u64> {
+    pub fn cycles_to_pulse(&self) -> Option<u64> {
         let with_interrupt = (0..TIMERS).filter(|&index| self.timers[index].has(IE));
         let tick = with_interrupt.filter_map(|index| self.tick_of_underflow(index, 1)).min()?;
         self.prescaler().count_of_underflow(tick)

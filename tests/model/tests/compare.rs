@@ -78,9 +78,9 @@ fn soon(condition: impl Fn() -> bool) -> bool {
 
 #[test]
 fn the_model_is_counted_apart() {
-    // Of each 18 seeds, 0, 4, 8 and 12 are those of short spans, and from 1000 on there are the 12
+    // Of each 22 seeds, 0, 3, 5, 10, 12 and 15 are those of short spans, and from 1000 on there are the 12
     // numbers.
-    for (count, model) in [("5", 2), ("20", 5), ("1000", 235)] {
+    for (count, model) in [("5", 2), ("20", 6), ("1000", 285)] {
         let output =
             compare("apart", &[MODEL.as_ref(), "--count".as_ref(), count.as_ref()]).output().unwrap();
         let lines = lines(&output);
@@ -98,7 +98,7 @@ fn a_wrong_program_passes_nothing() {
     let output = with_stand_in("wrong", "cat >/dev/null; printf 'APL\\000\\001'", "20").output().unwrap();
     let lines = lines(&output);
     let [.., model, _, last] = lines[..] else { panic!("{lines:?}") };
-    assert_eq!((model, last), ("the model's checks on itself: 12 passed, 0 failed", "0 passed, 50 failed"));
+    assert_eq!((model, last), ("the model's checks on itself: 15 passed, 0 failed", "0 passed, 50 failed"));
     assert_eq!(output.status.code(), Some(1));
 }
 

@@ -1,5 +1,5 @@
-//! The bench examples of 01, as 02, No. 3 changes them, and edge readings of both papers' sentences,
-//! through the script interface. The numbers are worked out from the papers; comments say how.
+//! The bench examples of 01, as 02, No. 3 and No. 4 change them, and edge readings of both papers'
+//! sentences, through the script interface. Those of the interrupt controller are in `interrupts`. The numbers are worked out from the papers; comments say how.
 
 use std::io::{self, ErrorKind, Read};
 
@@ -145,8 +145,9 @@ fn refusals_of_accesses() {
         (4, 0x8000_01FE, 3),
         (2, 0x8000_0101, 4),
         (1, 0x8000_01FF, 5),
-        (4, 0x8000_0200, 2),
         (3, 0x8000_0200, 1),
+        (4, 0x8000_0000, 2),
+        (4, 0x8000_0400, 2),
         // Sizes are judged first, wherever the address lies.
         (0, 0x8000_0100, 1),
         (255, 0xFFFF_FFFF, 1),
@@ -168,6 +169,8 @@ fn refusals_of_accesses() {
         let (read, write) = (Call::Read { size, address }, Call::Write { size, address, value: u32::MAX });
         check(&[write, read], &[number(refusal); 2]);
     }
+    // Where no window was before No. 4.
+    check(&[read(0x8000_0200), write(0x8000_0200, 0), read(0x8000_0200)], &[number(0); 3]);
 }
 
 #[test]
@@ -358,9 +361,16 @@ fn files() {
 
 #[test]
 fn malformed_records_and_tails() {
-    let calls = [read(CONTROL), write(CONTROL, 0), offer(1), advance(1), skip(1), Call::Reset];
-    let blanks = [(2, 3, 8, 15), (2, 3, 8, 11), (3, 3, 4, 15), (1, 3, 4, 7), (1, 3, 4, 7), (1, 3, 4, 15)];
-    for (call, (a, b, c, d)) in calls.into_iter().zip(blanks) {
+    let table = [
+        (read(CONTROL), (2, 3, 8, 15)),
+        (write(CONTROL, 0), (2, 3, 8, 11)),
+        (offer(1), (3, 3, 4, 15)),
+        (advance(1), (1, 3, 4, 7)),
+        (skip(1), (1, 3, 4, 7)),
+        (Call::Reset, (1, 3, 4, 15)),
+        (Call::Acknowledge, (1, 3, 4, 15)),
+    ];
+    for (call, (a, b, c, d)) in table {
         for index in 0..16 {
             let mut script = script_of(&[write(CONTROL, 8), call, read(CONTROL)]);
             script[5 + 16 + index] ^= 0x40;

@@ -16,14 +16,14 @@ fn scripts_are_fixed() {
     let hash = bytes.fold(0xCBF2_9CE4_8422_2325_u64, |hash, byte| {
         (hash ^ u64::from(byte)).wrapping_mul(0x0100_0000_01B3)
     });
-    assert_eq!(hash, 0xAF7D_6E45_D15C_813E);
+    assert_eq!(hash, 0x9168_286F_242D_9B79);
 }
 
 #[test]
-fn eighteen_seeds_hold_every_family() {
-    for first in (0..40).chain(u64::MAX - 40..=u64::MAX - 17) {
+fn twenty_two_seeds_hold_every_family() {
+    for first in (0..50).chain(u64::MAX - 50..=u64::MAX - 21) {
         for family in FAMILIES {
-            assert!((first..=first + 17).any(|seed| generator::family(seed) == family), "{first} {family:?}");
+            assert!((first..=first + 21).any(|seed| generator::family(seed) == family), "{first} {family:?}");
         }
     }
 }
@@ -42,15 +42,18 @@ fn spans(seed: u64) -> Vec<u64> {
 
 #[test]
 fn scripts_of_short_spans_are_short() {
-    for seed in seeds(Family::Short, 2000) {
-        assert!(spans(seed).iter().sum::<u64>() <= SHORT_TOTAL, "seed {seed}");
+    for family in [Family::Short, Family::Interrupts] {
+        assert!(family.has_short_spans() && family.description().contains(" 100,000 cycles "));
+        for seed in seeds(family, 2000) {
+            assert!(spans(seed).iter().sum::<u64>() <= SHORT_TOTAL, "seed {seed}");
+        }
     }
-    assert!(SHORT_TOTAL == 100_000 && Family::Short.description().contains(" 100,000 cycles "));
+    assert_eq!(SHORT_TOTAL, 100_000);
 }
 
 #[test]
-fn no_time_passes_in_scripts_of_windows_and_streams() {
-    for family in [Family::Windows, Family::Stream] {
+fn no_time_passes_in_scripts_of_windows_streams_and_priorities() {
+    for family in [Family::Windows, Family::Stream, Family::Priorities] {
         for seed in seeds(family, 2000) {
             assert!(spans(seed).is_empty(), "seed {seed}");
         }
@@ -62,15 +65,20 @@ fn seeds(family: Family, end: u64) -> impl Iterator<Item = u64> {
 }
 
 /// Does the whole records of a script, all well formed, and looks at each with its answer and at the
-/// timer unit before it.
-fn follow(seed: u64, mut look: impl FnMut(Call, Entry, &TimerUnit)) {
+/// machine before it.
+fn follow_machine(seed: u64, mut look: impl FnMut(Call, Entry, &Board)) {
     let script = generator::script(seed);
     let mut board = Board::RESET;
     for record in script[SCRIPT_HEADER.len()..].as_chunks().0 {
-        let before = board.timer_unit.clone();
+        let before = board.clone();
         let entry = execute(&mut board, record, Mode::Arithmetic);
         look(Call::decode(record).unwrap(), entry, &before);
     }
+}
+
+/// The same with the timer unit alone.
+fn follow(seed: u64, mut look: impl FnMut(Call, Entry, &TimerUnit)) {
+    follow_machine(seed, |call, entry, board| look(call, entry, &board.timer_unit));
 }
 
 #[test]
@@ -78,7 +86,7 @@ fn streams_are_long() {
     // Scripts in which a port accepts more than 256 and more than 65,536 bytes with no reset; scripts
     // that emit as many; and scripts with resets.
     let (mut accept, mut emit, mut reset) = ([0; 2], [0; 2], 0);
-    for seed in seeds(Family::Stream, 18 * 64) {
+    for seed in seeds(Family::Stream, 22 * 64) {
         let (mut accepted, mut most, mut emitted, mut resets) = ([0; 6], 0, 0, 0);
         follow(seed, |call, entry, _| match call {
             Call::Offer { port, .. } if entry.refusal == 0 => {
@@ -107,7 +115,7 @@ fn streams_go_round() {
     const PORTS: [u32; 6] = [0x8000_0100, 0x8010_0100, 0x8010_0200, 0x8010_0300, 0x8010_0400, 0x8010_0500];
     let mut filled = [[false; 8]; 8];
     let mut emptied = [[false; 8]; 8];
-    for seed in seeds(Family::Stream, 100) {
+    for seed in seeds(Family::Stream, 122) {
         let (mut accepted, mut taken) = ([0; 6], [0; 6]);
         follow(seed, |call, entry, _| match call {
             Call::Offer { port, .. } if entry.refusal == 0 => {
@@ -172,10 +180,10 @@ fn chains_are_long() {
 fn skips_are_aimed_at_pulses() {
     for family in [Family::Timers, Family::Short] {
         let mut aimed = [0; 3];
-        for seed in seeds(family, 500) {
-            follow(seed, |call, _, unit| {
+        for seed in seeds(family, 700) {
+            follow_machine(seed, |call, _, board| {
                 let Call::Skip { limit } = call else { return };
-                let next = unit.clone().skip(u64::MAX);
+                let next = board.clone().skip(u64::MAX);
                 if next.pulses != [0; 4] && next.cycles > 1 && limit.abs_diff(next.cycles) <= 1 {
                     aimed[(limit - (next.cycles - 1)) as usize] += 1;
                 }
@@ -214,6 +222,98 @@ fn timers_are_in_rare_states() {
         }
         assert!(seen.iter().all(|&count| count >= 5), "{family:?} {seen:?}");
     }
+}
+
+/// Acknowledges are met with one and with many lines waiting, in the states in which their order, their
+/// mask and what they clear and note can be told.
+#[test]
+fn lines_are_in_rare_states() {
+    const LINE_12: u32 = 1 << 12;
+    const EXTENDED: u32 = 0xFFFF_0000;
+    for family in [Family::Interrupts, Family::Priorities] {
+        let mut seen = [0; 16];
+        for seed in seeds(family, 1000) {
+            follow_machine(seed, |call, entry, Board { irqmp, .. }| {
+                if call != Call::Acknowledge {
+                    return;
+                }
+                let set = irqmp.pending | irqmp.force;
+                let waiting = set & irqmp.mask;
+                let (extended, own) = (waiting & EXTENDED, waiting & !EXTENDED);
+                let states = [
+                    waiting == 0 && set == 0,
+                    waiting == 0 && set != 0,
+                    waiting == 0 && irqmp.extended_acknowledge != 0,
+                    set & !irqmp.mask & EXTENDED > extended && extended != 0,
+                    waiting.count_ones() > 20,
+                    // Levels that put a lower line first.
+                    own & irqmp.level != 0 && own & !irqmp.level > own & irqmp.level,
+                    // Extended lines alone, beside lines that go before and after 12, and beside 12.
+                    extended != 0 && own == 0,
+                    extended.count_ones() > 1,
+                    extended != 0 && own >> 13 != 0 && entry.value == 12,
+                    extended != 0 && own >> 13 != 0 && entry.value > 12,
+                    extended != 0 && own & irqmp.level != 0 && entry.value < 12,
+                    extended != 0 && irqmp.mask & LINE_12 == 0 && set & LINE_12 != 0,
+                    extended != 0 && own & irqmp.force & LINE_12 != 0 && entry.value == 12,
+                    // Line 12 itself, and another one, after an extended line.
+                    extended == 0 && entry.value == 12 && irqmp.extended_acknowledge != 0,
+                    entry.value != 12 && entry.value != 0 && irqmp.extended_acknowledge != 0,
+                    entry.value != 0 && irqmp.pending & irqmp.force & 1 << entry.value != 0,
+                ];
+                seen.iter_mut().zip(states).for_each(|(count, state)| *count += u32::from(state));
+            });
+        }
+        assert!(seen.iter().all(|&count| count >= 5), "{family:?} {seen:?}");
+    }
+}
+
+/// Rises are met of each port and by each cause, and the lines of one and of many timers, pending already
+/// or not; and levels that stay or fall while the line isn't, or is, pending.
+#[test]
+fn lines_rise_by_every_cause() {
+    const PORT_LINES: [u32; 6] = [2, 17, 18, 19, 20, 21];
+    let (mut by_control, mut by_byte, mut stays, mut falls) = ([0; 6], [0; 6], 0, 0);
+    let (mut pulsed, mut again) = ([0; 5], 0);
+    for seed in seeds(Family::Interrupts, 1000) {
+        follow_machine(seed, |call, entry, board| {
+            let (before, after) = (board.levels(), entry.levels);
+            for (port, line) in PORT_LINES.into_iter().enumerate() {
+                let is_set = |levels: u8| levels >> port & 1 == 1;
+                let pending = board.irqmp.pending >> line & 1 == 1;
+                match (is_set(before), is_set(after), call) {
+                    (false, true, Call::Write { .. }) => by_control[port] += 1,
+                    (false, true, Call::Offer { .. }) => by_byte[port] += 1,
+                    (true, true, Call::Offer { port: own, .. }) if usize::from(own) == port => {
+                        stays += u32::from(!pending)
+                    }
+                    (true, false, Call::Write { .. }) => falls += u32::from(pending),
+                    _ => {}
+                }
+            }
+            let timers = entry.passed.pulses.map(|pulses| pulses > 0);
+            pulsed[timers.iter().filter(|&&pulsed| pulsed).count()] += 1;
+            again += u32::from((0..4).any(|n| timers[n] && board.irqmp.pending >> (8 + n) & 1 == 1));
+        });
+    }
+    let counts = [&by_control[..], &by_byte, &[stays, falls], &pulsed, &[again]].concat();
+    assert!(counts.iter().all(|&count| count >= 5), "{counts:?}");
+}
+
+/// Most mixed scripts have something to do with the controller before the end, which reads everything.
+#[test]
+fn mixed_scripts_meet_the_controller() {
+    let (mut met, mut all) = (0, 0);
+    for seed in seeds(Family::Mixed, 1000) {
+        let mut writes = 0;
+        follow(seed, |call, _, _| match call {
+            Call::Write { address: 0x8000_0200..0x8000_0300, .. } | Call::Acknowledge => writes += 1,
+            _ => {}
+        });
+        met += u32::from(writes > 0);
+        all += 1;
+    }
+    assert!(met * 10 > all * 8, "{met} of {all}");
 }
 
 fn generate(arguments: &[&str]) -> Output {

@@ -1,7 +1,7 @@
 -- The ports of a machine, as the code goes through them. Assumes nothing.
 use Prim.Native.Nat.{ℕ, _+_, _*_, _-_, _^_, _≤_, _<_}
 use mathlib.Core.Path.{_≡_, refl, ap, _∙_}
-use mathlib.Core.Bool.{Bool, true, false, cond}
+use mathlib.Core.Bool.{Bool, true, false, cond, _&&_}
 use mathlib.Core.List.{List, [], _∷_, map}
 use native.Mathlib.Omega.{arith}
 use native.Mathlib.Nat.{pow-suc, pow-le-pow-right}
@@ -30,13 +30,13 @@ module _
 
   pub ill-here :
       (z : Apbuart) (b : Bool) → i < n → b ≡ uart.wellFormed (portOf (getD ps i z)) → b ≡ false →
-      false ≡ allWell (map portOf ps)
+      (rest : Bool) → false ≡ (allWell (map portOf ps) && rest)
   unfolding allWell
-  ill-here z b l e t = rw (← at-place wellPorts ps n i whole so-far z l, ← e, t) refl
+  ill-here z b l e t rest = rw (← at-place wellPorts ps n i whole so-far z l, ← e, t) refl
 
-  pub well-all : n ≤ i → true ≡ allWell (map portOf ps)
+  pub well-all : n ≤ i → (b rest : Bool) → b ≡ rest → b ≡ (allWell (map portOf ps) && rest)
   unfolding allWell
-  well-all l = at-end wellPorts ps n i whole so-far l
+  well-all l b rest e = rw (← at-end wellPorts ps n i whole so-far l) e
 
 -- The line levels, from the last port down.
 byte-level : (b : Bool) → boolByte b ≡ cond b 1 0

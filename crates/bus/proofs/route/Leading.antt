@@ -13,27 +13,35 @@ use Rattle.devices.specs.Cases.{chosen, tested}
 use Rattle.devices.specs.Refusal.{notRefused}
 use Rattle.devices.specs.Apbuart as uart
 use Rattle.devices.specs.Apbuart.Laws.{read-accepted, write-accepted, offer-refused}
+use Rattle.devices.specs.Gptimer as gpt
+use Rattle.devices.specs.Irqmp as irq
+use Rattle.devices.specs.Irqmp.Laws as controller′
+use Rattle.devices.specs.declared.irqmp.Answer as controller
 use Rattle.bus.specs.Refusal.{badSize, noWindow, badRecord}
 use Rattle.bus.specs.Board.{allThere, isThere, holds, windowAt}
-use Rattle.bus.specs.Machine.{Machine, Answer, portAt, wellFormed, refused, ofPort}
+use Rattle.bus.specs.Machine.{Machine, Answer, portAt, withPort, withUnit, withIrqmp}
+use Rattle.bus.specs.Machine.{wellFormed, noPulses, refused, ofPort, ofController}
+use Rattle.bus.specs.Time.{step, stepped}
+use Rattle.bus.specs.Time.Laws.{quiet-step, quiet-answer}
 use Rattle.bus.specs.Call.{isSize, first, rules, access, byteFor, readDevice, writeDevice, reach, execute, windowOf}
 use Rattle.bus.specs.Call.{subject, answer, refusal}
-use Rattle.bus.specs.Call.Laws.{answer-executed, answer-refused, well-at, no-port-number, offer-number, other-number}
+use Rattle.bus.specs.Call.Laws.{answer-executed, answer-refused, well-at, well-ports, well-irqmp, no-port-number, offer-number, other-number}
 use Rattle.bus.specs.Route as routes
-use Rattle.bus.specs.Route.{portCalled, carriedOut, Leads}
+use Rattle.bus.specs.Route.{portCalled, controllerCalled, carriedOut, Leads}
 use Rattle.bus.specs.Private.{windowNumber, readRoute, writeRoute, windowRoute, accessRoute, offerRoute}
 use Rattle.bus.specs.declared.board.Window.{Window}
 use Rattle.bus.specs.declared.board.Device.{Device}
-use Rattle.bus.specs.declared.board.Device.the-variants.{Port, TimerUnit}
+use Rattle.bus.specs.declared.board.Device.the-variants.{Port, TimerUnit, Controller}
 use Rattle.bus.specs.declared.board.Board.{Board}
 use Rattle.bus.specs.declared.board.Found.{Found}
 use Rattle.bus.specs.declared.board.Found.the-variants.{In, Nowhere}
 use Rattle.bus.specs.declared.machine.Call.{Call}
-use Rattle.bus.specs.declared.machine.Call.the-variants.{Read, Write, Offer, Advance, Skip, Reset, Malformed}
+use Rattle.bus.specs.declared.machine.Call.the-variants.{Read, Write, Offer, Advance, Skip, Reset, Acknowledge, Malformed}
 use Rattle.bus.specs.declared.route.Route.{Route}
 use Rattle.bus.specs.declared.route.Route.the-variants.{Refused}
 use Rattle.bus.specs.declared.route.Route.the-variants as to
 use Rattle.devices.specs.declared.gptimer.Span.the-variants as span
+use Rattle.devices.specs.declared.irqmp.Call.the-variants as control
 
 -- Where a call leads.
 unfoldable pub route : Board → Call → Route
@@ -43,32 +51,48 @@ route b (Offer n byte) = offerRoute b n byte
 route b (Advance cycles) = to.Pass (span.Cycles cycles)
 route b (Skip limit) = to.Pass (span.ToPulse limit)
 route b Reset = to.Reset
+route b Acknowledge = to.Controller control.Acknowledge
 route b Malformed = Refused badRecord
 
 -- what a port answers that does not refuse
-called : (n : ℕ) (a : uart.Answer) (m : Machine) → a .refusal ≡ notRefused → ofPort n a m ≡ portCalled n a m
+called : (n : ℕ) (a : uart.Answer) (m : Machine) → a .refusal ≡ notRefused → stepped m (ofPort n a m) ≡ portCalled n a m
 called n a m e = rw e refl
 
+-- and the controller
+controlled : (a : controller.Answer) (m : Machine) → a .refusal ≡ notRefused → ofController a m ≡ controllerCalled a m
+controlled a m e = rw e refl
+
+control-step :
+    (a : controller.Answer) (m : Machine) → a .refusal ≡ notRefused → stepped m (ofController a m) ≡ controllerCalled a m
+control-step a m e = quiet-answer (a .value) m (withIrqmp (a .controller) m) refl ∙ controlled a m e
+
 module _ (m : Machine) (w : wellFormed m ≡ true) where
-  reads-out : (d : Device) (offset : ℕ) → readDevice m d offset ≡ carriedOut (readRoute d offset) m
+  reads-out : (d : Device) (offset : ℕ) → stepped m (readDevice m d offset) ≡ carriedOut (readRoute d offset) m
   unfolding carriedOut
   reads-out (Port n) offset =
-      called n (uart.read offset (portAt n m)) m (read-accepted (portAt n m) (well-at (m .ports) n w) offset)
-  reads-out TimerUnit offset = refl
+      called n (uart.read offset (portAt n m)) m (read-accepted (portAt n m) (well-at (m .ports) n (well-ports m w)) offset)
+  reads-out TimerUnit offset = quiet-answer (gpt.read offset (m .unit)) m m refl
+  reads-out Controller offset =
+      control-step (irq.read offset (m .irqmp)) m (controller′.read-accepted (m .irqmp) (well-irqmp m w) offset)
 
-  writes-out : (value : ℕ) (d : Device) (offset : ℕ) → writeDevice value m d offset ≡ carriedOut (writeRoute value d offset) m
+  writes-out :
+      (value : ℕ) (d : Device) (offset : ℕ) →
+      stepped m (writeDevice value m d offset) ≡ carriedOut (writeRoute value d offset) m
   unfolding carriedOut
   writes-out value (Port n) offset =
-      called n (uart.write offset value (portAt n m)) m (write-accepted (portAt n m) (well-at (m .ports) n w) offset value)
-  writes-out value TimerUnit offset = refl
+      called n (uart.write offset value (portAt n m)) m (write-accepted (portAt n m) (well-at (m .ports) n (well-ports m w)) offset value)
+  writes-out value TimerUnit offset = quiet-answer 0 m (withUnit (gpt.write offset value (m .unit)) m) refl
+  writes-out value Controller offset =
+      control-step (irq.write offset value (m .irqmp)) m
+      (controller′.write-accepted (m .irqmp) (well-irqmp m w) offset value)
 
   -- an access, by the table's lines for one, which look at no machine
   module _
       (c : Call) (reply : Device → ℕ → Answer) (own : Device → ℕ → Route) (address size : ℕ)
-      (out : (d : Device) (offset : ℕ) → reply d offset ≡ carriedOut (own d offset) m) where
+      (out : (d : Device) (offset : ℕ) → stepped m (reply d offset) ≡ carriedOut (own d offset) m) where
     window-out :
         (found : Found) → isSize size ≡ true → refusal (subject c m) m ≡ first (rules (access address size found) m) →
-        execute c m ≡ reach reply m address found → answer c m ≡ carriedOut (windowRoute own address size found) m
+        execute c m ≡ stepped m (reach reply m address found) → answer c m ≡ carriedOut (windowRoute own address size found) m
     unfolding carriedOut answer
     window-out Nowhere sized e f =
         answer-refused c m noWindow (sym (e ∙ rw sized refl)) (λ z. absurd (omega arith))
@@ -81,7 +105,7 @@ module _ (m : Machine) (w : wellFormed m ≡ true) where
 
     accessed-out :
         (found : Found) → refusal (subject c m) m ≡ first (rules (access address size found) m) →
-        execute c m ≡ reach reply m address found → answer c m ≡ carriedOut (accessRoute own address size found) m
+        execute c m ≡ stepped m (reach reply m address found) → answer c m ≡ carriedOut (accessRoute own address size found) m
     unfolding carriedOut
     accessed-out found e f =
         tested (isSize size) (λ sized. rw sized (window-out found sized e f))
@@ -89,7 +113,9 @@ module _ (m : Machine) (w : wellFormed m ≡ true) where
 
   -- an offered byte: one that the port refuses changes nothing
   same-port : (n k : ℕ) → refused k m ≡ portCalled n (uart.refused k (portAt n m)) m
-  same-port n k = rw (set-getD (m .ports) n uart.resetState) refl
+  same-port n k =
+      let stays : withPort n (portAt n m) m ≡ m = rw (set-getD (m .ports) n uart.resetState) refl in
+      ap (refused k) (sym (ap (step noPulses m) stays ∙ quiet-step m m refl))
 
   offered-out : (n byte : ℕ) → answer (Offer n byte) m ≡ carriedOut (offerRoute (m .board) n byte) m
   unfolding carriedOut
@@ -119,6 +145,9 @@ module _ (m : Machine) (w : wellFormed m ≡ true) where
   routed (Advance cycles) = answer-executed (Advance cycles) m (other-number m w)
   routed (Skip limit) = answer-executed (Skip limit) m (other-number m w)
   routed Reset = answer-executed Reset m (other-number m w)
+  routed Acknowledge =
+      answer-executed Acknowledge m (other-number m w) ∙
+      controlled (irq.acknowledge (m .irqmp)) m (controller′.acknowledge-accepted (m .irqmp) (well-irqmp m w))
   routed Malformed = answer-refused Malformed m badRecord (rw w refl) (λ z. absurd (omega arith))
 
 -- The window that is found is one of the table's.
@@ -137,10 +166,12 @@ module _ (k : ℕ) where
   reads-there : (d : Device) (offset : ℕ) → isThere k d ≡ true → routes.portExists k (readRoute d offset) ≡ true
   reads-there (Port n) offset t = t
   reads-there TimerUnit offset t = refl
+  reads-there Controller offset t = refl
 
   writes-there : (value : ℕ) (d : Device) (offset : ℕ) → isThere k d ≡ true → routes.portExists k (writeRoute value d offset) ≡ true
   writes-there value (Port n) offset t = t
   writes-there value TimerUnit offset t = refl
+  writes-there value Controller offset t = refl
 
   module _
       (own : Device → ℕ → Route)
@@ -173,6 +204,7 @@ route-there b (Offer n byte) t =
 route-there b (Advance cycles) t = refl
 route-there b (Skip limit) t = refl
 route-there b Reset t = refl
+route-there b Acknowledge t = refl
 route-there b Malformed t = refl
 
 -- A call by its variant leads where its route says.

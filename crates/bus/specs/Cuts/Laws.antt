@@ -1,15 +1,16 @@
 -- The slow run of a list of calls of which some advances are cut. Assumes nothing.
 use Prim.Native.Nat.{ℕ, _+_}
 use mathlib.Core.Path.{_≡_, refl, sym, ap, _∙_}
+use mathlib.Core.Bool.{true}
 use mathlib.Core.List.{List, [], _∷_, map}
 use native.Mathlib.Nat.{add-zero}
 use lib.ListN.{length, length-map}
 use Rattle.devices.specs.Cases.{tested}
-use Rattle.devices.specs.Gptimer as gpt
-use Rattle.devices.specs.Gptimer.Laws.{advance-cut}
-use Rattle.bus.specs.Machine.{Machine, Answer, withUnit, wellFormed}
+use Rattle.bus.specs.Machine.{Machine, Answer, wellFormed}
+use Rattle.bus.specs.Time as time
+use Rattle.bus.specs.Time.Laws.{advance-cut}
 use Rattle.bus.specs.Call.{answer}
-use Rattle.bus.specs.Call.Laws.{advance-well, ill-refused}
+use Rattle.bus.specs.Call.Laws.{advance-well, ill-refused, answer-keeps}
 use Rattle.bus.specs.SlowRun.{answers, after}
 use Rattle.bus.specs.SlowRun.Laws.{answers-append, after-append, length-answers}
 use Rattle.bus.specs.Cuts as cuts
@@ -18,7 +19,7 @@ use Rattle.bus.specs.declared.machine.Call.the-variants.{Advance}
 
 -- An advance of 0 changes nothing.
 advance-none : (m : Machine) → answer (Advance 0) m .machine ≡ m
-unfolding gpt.advance
+unfolding time.advance
 advance-none m =
     tested (wellFormed m) (λ w. rw (advance-well m w 0) refl) (λ ill. rw (ill-refused (Advance 0) m ill) refl)
 
@@ -29,11 +30,14 @@ advance-joined :
 advance-joined a b m =
     tested (wellFormed m)
     (λ w.
+    let first = advance-well m w a in
+    let still : wellFormed (time.advance a m .machine) ≡ true =
+    ap (λ (x : Answer). wellFormed (x .machine)) (sym first) ∙ answer-keeps (Advance a) m ∙ w in
     rw (
-      advance-well m w a,
-      advance-well (withUnit (gpt.advance a (m .unit) .unit) m) w b,
+      first,
+      advance-well (time.advance a m .machine) still b,
       advance-well m w (a + b),
-      advance-cut a b (m .unit),
+      advance-cut a b m,
     )
     refl)
     (λ ill.

@@ -1,12 +1,12 @@
 -- What comes of a route on a machine of the code, from what its device answered: for whoever carries routes out, by value
 -- (`Machine::call`) or where the machine lies (a run). Assumes nothing.
-use Prim.Native.Nat.{ℕ, zero, suc, _*_, _^_, _<_}
+use Prim.Native.Nat.{ℕ, zero, suc, _*_, _^_, _≤_, _<_}
 use mathlib.Core.Path.{_≡_, refl, sym, ap, _∙_}
-use mathlib.Core.Bool.{true}
+use mathlib.Core.Bool.{Bool, true, cond}
 use mathlib.Core.List.{List, [], _∷_, map}
 use native.Mathlib.Omega.{arith}
 use lib.Dec.{lit<}
-use lib.ListN.{length, getD, set}
+use lib.ListN.{length, getD, set, length-map}
 use lib.Seq.{set-getD}
 use mir.Syntax.{w64}
 use mir.Val.{Fits}
@@ -18,6 +18,9 @@ use Rattle.devices.specs.Apbuart.Call.{answerTo}
 use Rattle.devices.specs.Apbuart.View as port
 use Rattle.devices.specs.Apbuart.View.{portOf}
 use Rattle.devices.specs.Gptimer as gpt
+use Rattle.devices.specs.Irqmp as irq
+use Rattle.devices.specs.Irqmp.Call as controller
+use Rattle.devices.specs.Irqmp.Laws.{set-none, call-same}
 use Rattle.devices.specs.Gptimer.Span.{pass, countedDown, Tells}
 use Rattle.devices.specs.declared.apbuart.Apbuart.{Apbuart}
 use Rattle.devices.specs.declared.apbuart.Answer as apbuart
@@ -25,22 +28,32 @@ use Rattle.devices.specs.declared.apbuart.Call.{Call}
 use Rattle.devices.specs.declared.gptimer.Gptimer.{Gptimer}
 use Rattle.devices.specs.declared.gptimer.Elapsed.{Elapsed}
 use Rattle.devices.specs.declared.gptimer.Span.{Span}
+use Rattle.devices.specs.declared.gptimer.Span.the-variants.{Cycles, ToPulse}
 use Rattle.devices.specs.declared.gptimer.BeforeTick.{BeforeTick}
 use Rattle.devices.specs.declared.gptimer.BeforeTick.the-variants.{Yes}
+use Rattle.devices.specs.declared.irqmp.Irqmp.{Irqmp}
+use Rattle.devices.specs.declared.irqmp.Answer as irqmp
+use Rattle.devices.specs.declared.irqmp.Call as control
 use Rattle.bus.specs.Board.{gr712rc}
 use Rattle.bus.specs.Machine as bus
-use Rattle.bus.specs.Route.{portAnswer, spanAnswer, carriedOut, portExists, Leads}
+use Rattle.bus.specs.Time as time
+use Rattle.bus.specs.Time.{linesOf, pulsed, rises}
+use Rattle.bus.specs.Time.Laws.{still, quiet-lines, port-step, ofUnit, advance-unit, skip-unit}
+use Rattle.bus.specs.Route.{portAnswer, controllerAnswer, spanAnswer, passes, carriedOut, portExists, Leads}
 use Rattle.bus.specs.View.{machineOf}
 use Rattle.bus.specs.declared.machine.Machine.{Machine}
 use Rattle.bus.specs.declared.machine.Call as machine
 use Rattle.bus.specs.declared.route.Route.{Route}
-use Rattle.bus.specs.declared.route.Route.the-variants.{Refused, Port, ReadUnit, WriteUnit, Pass, Reset}
+use Rattle.bus.specs.declared.route.Route.the-variants.{Refused, Port, ReadUnit, WriteUnit, Controller, Pass, Reset}
 
 abbrev pub storePort : ℕ → Apbuart → Machine → Machine
-storePort n p m = record { ports = set (m .ports) n p; unit = m .unit }
+storePort n p m = record { ports = set (m .ports) n p; unit = m .unit; irqmp = m .irqmp }
 
 abbrev pub storeUnit : Gptimer → Machine → Machine
-storeUnit u m = record { ports = m .ports; unit = u }
+storeUnit u m = record { ports = m .ports; unit = u; irqmp = m .irqmp }
+
+abbrev pub storeIrqmp : Irqmp → Machine → Machine
+storeIrqmp c m = record { ports = m .ports; unit = m .unit; irqmp = c }
 
 -- The route has this answer, and leaves this machine; one that is refused leaves the machine as it is.
 pub record Outcome (m : Machine) (route : Route) (a : bus.Answer) (next : Machine) : Type 0 where
@@ -60,25 +73,58 @@ port-viewed [] i z l = absurd (omega arith)
 port-viewed (p ∷ ps) zero z l = refl
 port-viewed (p ∷ ps) (suc i) z l = port-viewed ps i z (omega arith)
 
+-- A span of the machine is the timer unit's, with the lines of the timers that pulsed.
+passes-unit : (span : Span) (m : bus.Machine) → passes span m ≡ ofUnit (pass span (m .unit)) m
+passes-unit (Cycles cycles) m = advance-unit cycles m
+passes-unit (ToPulse limit) m = skip-unit limit m
+
 module _ (m : Machine) (route : Route) where
   pub refused-outcome : (number : ℕ) → route ≡ Refused number → Outcome m route (bus.refused number (machineOf m)) m
   unfolding carriedOut
   refused-outcome number e = record { answer = rw e refl; machine = refl; same = λ refused. refl }
 
   pub port-outcome :
-      (n : ℕ) (z : Apbuart) (x : apbuart.Answer) (c : Call) → route ≡ Port n c → n < 6 → length (m .ports) ≡ 6 →
+      (n : ℕ) (z : Apbuart) (x : apbuart.Answer) (c : Call) (d : Irqmp) → route ≡ Port n c → n < 6 → length (m .ports) ≡ 6 →
       port.Conforms (getD (m .ports) n z) (answerTo c (portOf (getD (m .ports) n z))) x →
-      Outcome m route (portAnswer (port.answerOf x) (machineOf (storePort n (x .port) m))) (storePort n (x .port) m)
-  unfolding carriedOut
-  port-outcome n z x c e l whole conforms =
+      d ≡
+      irq.setPending (cond (rises (getD (m .ports) n z .level) (x .port .level)) (getD (gr712rc .lines .ports) n 0) 0)
+      (m .irqmp) .controller →
+      (let next : Machine = storeIrqmp d (storePort n (x .port) m) in
+      Outcome m route (portAnswer (port.answerOf x) (machineOf next)) next)
+  unfolding carriedOut gr712rc
+  port-outcome n z x c d e l whole conforms set-by =
+      let viewed : portOf (getD (m .ports) n z) ≡ bus.portAt n (machineOf m) = port-viewed (m .ports) n z (omega arith) in
       let own : answerTo c (bus.portAt n (machineOf m)) ≡ port.answerOf x =
-      ap (answerTo c) (sym (port-viewed (m .ports) n z (omega arith))) ∙ sym (conforms .answer) in
-      let stored : machineOf (storePort n (x .port) m) ≡ bus.withPort n (portOf (x .port)) (machineOf m) =
-      rw (ports-set (m .ports) n (x .port)) refl in
+      ap (answerTo c) (sym viewed) ∙ sym (conforms .answer) in
+      let was : getD (m .ports) n z .level ≡ bus.portAt n (machineOf m) .level = ap (λ (p : uart.Port). p .level) viewed in
+      let stepped : bus.Machine = machineOf (storeIrqmp d (storePort n (x .port) m)) in
+      let after : time.step bus.noPulses (machineOf m) (bus.withPort n (portOf (x .port)) (machineOf m)) ≡ stepped =
+      port-step n (portOf (x .port)) (machineOf m) (rw (length-map, whole) (omega arith)) ∙
+      rw (ports-set (m .ports) n (x .port), set-by, was) refl in
       record {
-        answer = rw (e, own) (ap (portAnswer (port.answerOf x)) (sym stored));
+        answer = rw (e, own) (ap (portAnswer (port.answerOf x)) after);
         machine = refl;
-        same = λ refused. rw (conforms .same refused, set-getD (m .ports) n z) refl;
+        same =
+            λ refused.
+            let back : x .port ≡ getD (m .ports) n z = conforms .same refused in
+            let none : d ≡ m .irqmp = set-by ∙ rw (back, still (getD (m .ports) n z .level)) (set-none (m .irqmp)) in
+            rw (back, none, set-getD (m .ports) n z) refl;
+      }
+
+  pub controller-outcome :
+      (c : control.Call) (x : irqmp.Answer) → route ≡ Controller c → x ≡ controller.answerTo c (m .irqmp) →
+      Outcome m route (controllerAnswer x (machineOf (storeIrqmp (x .controller) m))) (storeIrqmp (x .controller) m)
+  unfolding carriedOut
+  controller-outcome c x e f =
+      record {
+        answer = rw (e, ← f) refl;
+        machine = refl;
+        same =
+            λ refused.
+            let back : x .controller ≡ m .irqmp =
+            ap (λ (a : irqmp.Answer). a .controller) f ∙
+            call-same c (m .irqmp) (λ z. refused (ap (λ (a : irqmp.Answer). a .refusal) f ∙ z)) in
+            rw back refl;
       }
 
   -- what is never refused
@@ -100,17 +146,21 @@ module _ (m : Machine) (route : Route) where
   unit-write-outcome offset value u e f = accepted-outcome _ (storeUnit u m) (rw (e, f) refl) refl refl
 
   pub pass-outcome :
-      (span : Span) (x : Elapsed) → route ≡ Pass span → x ≡ pass span (m .unit) →
-      Outcome m route (spanAnswer (x .cycles) (x .pulses) (machineOf (storeUnit (x .unit) m))) (storeUnit (x .unit) m)
+      (span : Span) (x : Elapsed) (d : Irqmp) → route ≡ Pass span → x ≡ pass span (m .unit) →
+      d ≡ irq.setPending (linesOf (gr712rc .lines .timers) (pulsed (x .pulses))) (m .irqmp) .controller →
+      (let next : Machine = storeIrqmp d (storeUnit (x .unit) m) in
+      Outcome m route (spanAnswer (x .cycles) (x .pulses) (machineOf next)) next)
   unfolding carriedOut
-  pass-outcome span x e f = accepted-outcome _ (storeUnit (x .unit) m) (rw (e, ← f) refl) refl refl
+  pass-outcome span x d e f set-by =
+      accepted-outcome _ (storeIrqmp d (storeUnit (x .unit) m)) (rw (e, passes-unit span (machineOf m), ← f, set-by) refl) refl refl
 
   pub short-outcome :
       (span : Span) (t : BeforeTick) (cycles scaler : ℕ) → route ≡ Pass span → Tells span (m .unit) t → t ≡ Yes cycles scaler →
       (let next : Machine = storeUnit (gpt.withScaler scaler (m .unit)) m in
       Outcome m route (spanAnswer cycles bus.noPulses (machineOf next)) next)
   short-outcome span t cycles scaler e tells f =
-      pass-outcome span (countedDown cycles scaler (m .unit)) e (sym ((rw f at tells) .1))
+      pass-outcome span (countedDown cycles scaler (m .unit)) (m .irqmp) e (sym ((rw f at tells) .1))
+      (sym (rw (quiet-lines (gr712rc .lines .timers) bus.noPulses refl) (set-none (m .irqmp))))
 
   pub reset-outcome :
       (next : Machine) → route ≡ Reset → machineOf next ≡ bus.resetState gr712rc →

@@ -21,8 +21,8 @@ adds-assoc (x ∷ xs) (y ∷ ys) [] = refl
 adds-assoc (x ∷ xs) (y ∷ ys) (z ∷ zs) = rw (add-assoc, adds-assoc xs ys zs) refl
 
 -- some pulse is in a sum exactly if one is in a part
-some : (x y : ℕ) → ltb 0 (x + y) ≡ (ltb 0 x || ltb 0 y)
-some x y =
+pub some-pulse : (x y : ℕ) → ltb 0 (x + y) ≡ (ltb 0 x || ltb 0 y)
+some-pulse x y =
     elim (decLt 0 x) [
       | yes l ↦ rw (lt-ltb 0 x l, lt-ltb 0 (x + y) (omega arith)) refl
       | no l ↦ let z : x ≡ 0 = omega arith in rw (z, zero-add) refl
@@ -36,7 +36,7 @@ four-ways false false c d = refl
 pub any-add : (xs ys : List ℕ) → anyPulse (addPulses xs ys) ≡ (anyPulse xs || anyPulse ys)
 any-add [] ys = refl
 any-add (x ∷ xs) [] = sym (or-false (ltb 0 x || anyPulse xs))
-any-add (x ∷ xs) (y ∷ ys) = rw (some x y, any-add xs ys) (four-ways (ltb 0 x) (ltb 0 y) (anyPulse xs) (anyPulse ys))
+any-add (x ∷ xs) (y ∷ ys) = rw (some-pulse x y, any-add xs ys) (four-ways (ltb 0 x) (ltb 0 y) (anyPulse xs) (anyPulse ys))
 
 pub any-none : (ts : List Timer) → anyPulse (noPulses ts) ≡ false
 any-none [] = refl

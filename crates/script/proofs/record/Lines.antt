@@ -6,12 +6,12 @@ use mathlib.Core.List.{List, [], _∷_, _++_}
 use lib.Dec.{eqb}
 use lib.ListN.{length}
 use borrow.Author.Tests.{le-ltb}
-use Rattle.devices.specs.Cases.{same}
+use Rattle.devices.specs.Cases.{same, tested}
 use Rattle.bus.specs.declared.machine.Call.{Call}
-use Rattle.bus.specs.declared.machine.Call.the-variants.{Advance, Skip, Reset, Malformed}
-use Rattle.script.specs.Script.{recordLength, ADVANCE, SKIP, RESET, fields, Line, table}
+use Rattle.bus.specs.declared.machine.Call.the-variants.{Advance, Skip, Reset, Acknowledge, Malformed}
+use Rattle.script.specs.Script.{recordLength, ADVANCE, SKIP, RESET, ACKNOWLEDGE, fields, Line, table}
 use Rattle.script.specs.Script.{allZero, callOn, callAmong, callIn}
-use Rattle.script.specs.Private.{lines4to6}
+use Rattle.script.specs.Private.{lines4to7}
 use Rattle.script.specs.declared.record.Fields.{Fields}
 
 module _ (l : Line) (b : Bool) (e : b ≡ allZero (l .blanks)) where
@@ -21,26 +21,30 @@ module _ (l : Line) (b : Bool) (e : b ≡ allZero (l .blanks)) where
   pub blanks-written : b ≡ false → Malformed ≡ callOn l
   blanks-written t = rw (← e, t)
 
--- The lines of kinds 4 to 6, by the test of the blanks that they share; a reset has one more.
+-- The lines of kinds 4 to 7, by the test of the blanks that they share; a reset and an acknowledge have one more.
 one-more : (ms : List ℕ) (n : ℕ) → allZero (ms ++ (n ∷ [])) ≡ (allZero ms && eqb n 0)
 one-more [] n = and-true (eqb n 0)
 one-more (m ∷ ms) n = rw (one-more ms n) (sym (and-assoc (eqb m 0) (allZero ms) (eqb n 0)))
 
-abbrev blanks4to6 : Fields → List ℕ
-blanks4to6 r = r .byte_1 ∷ r .byte_2 ∷ r .byte_3 ∷ r .bytes_4_7 ∷ []
+abbrev blanks4to7 : Fields → List ℕ
+blanks4to7 r = r .byte_1 ∷ r .byte_2 ∷ r .byte_3 ∷ r .bytes_4_7 ∷ []
 
-module _ (f : Fields) (b : Bool) (e : b ≡ allZero (blanks4to6 f)) where
+module _ (f : Fields) (b : Bool) (e : b ≡ allZero (blanks4to7 f)) where
   pub shared-zero :
       (x : Call) → b ≡ true →
       x ≡
       cond (eqb (f .kind) ADVANCE) (Advance (f .bytes_8_15))
       (cond (eqb (f .kind) SKIP) (Skip (f .bytes_8_15))
-      (cond (eqb (f .kind) RESET) (cond (eqb (f .bytes_8_15) 0) Reset Malformed) Malformed)) →
-      x ≡ callAmong (f .kind) (lines4to6 f)
-  shared-zero x t g = rw (one-more (blanks4to6 f) (f .bytes_8_15), ← e, t) g
+      (cond (eqb (f .bytes_8_15) 0)
+      (cond (eqb (f .kind) RESET) Reset (cond (eqb (f .kind) ACKNOWLEDGE) Acknowledge Malformed))
+      Malformed)) →
+      x ≡ callAmong (f .kind) (lines4to7 f)
+  shared-zero x t g =
+      rw (one-more (blanks4to7 f) (f .bytes_8_15), ← e, t)
+      (tested (eqb (f .bytes_8_15) 0) (λ zero. rw zero (rw zero at g)) (λ more. rw more (simp same (rw more at g))))
 
-  pub shared-written : b ≡ false → Malformed ≡ callAmong (f .kind) (lines4to6 f)
-  shared-written t = rw (one-more (blanks4to6 f) (f .bytes_8_15), ← e, t) (simp same)
+  pub shared-written : b ≡ false → Malformed ≡ callAmong (f .kind) (lines4to7 f)
+  shared-written t = rw (one-more (blanks4to7 f) (f .bytes_8_15), ← e, t) (simp same)
 
 -- A record that is long enough.
 pub whole-record :

@@ -8,6 +8,7 @@ use native.Mathlib.Nat.{add-zero}
 use lib.ListN.{length}
 use borrow.Author.Tests.{eq-eqb, ne-eqb}
 use Rattle.devices.specs.Apbuart as uart
+use Rattle.devices.specs.Irqmp as irq
 use Rattle.bus.specs.Board.{gr712rc}
 use Rattle.bus.specs.Refusal.{badRecord}
 use Rattle.bus.specs.Machine as bus
@@ -26,7 +27,7 @@ use Rattle.script.specs.Program.{tailLog}
 
 -- The machine that the program starts with.
 pub reset-well : wellFormed (bus.resetState gr712rc) ≡ true
-unfolding bus.allWell uart.wellFormed
+unfolding bus.allWell uart.wellFormed irq.wellFormed
 reset-well = refl
 
 -- A tail is answered with 10, on the machine that the records before it left.

@@ -6,7 +6,7 @@ use std::fmt::{self, Write as _};
 use std::process::ExitCode;
 use std::time::Duration;
 
-use model::generator::{self, Family, FAMILIES};
+use model::generator::{self, FAMILIES};
 use model::program::{self, Failure};
 use model::script::{run, Call, Mode, CALL_LENGTH, ENTRY_LENGTH, LOG_HEADER, SCRIPT_HEADER};
 
@@ -95,7 +95,7 @@ impl Task {
             let other = self.program_log(seed, &script, log.len());
             late = if let Err(Failure::Late(..)) = other { late + 1 } else { 0 };
             tally.program.judge(seed, &script, &log, other, "program");
-            if generator::family(seed) == Family::Short {
+            if generator::family(seed).has_short_spans() {
                 let slow = model_log(&script, Mode::SingleCycle);
                 tally.model.judge(seed, &script, &log, Ok(slow), "single cycles");
             }

@@ -9,7 +9,7 @@ use Rattle.devices.specs.Lists.{length-of}
 use Rattle.bus.specs.Machine as bus
 use Rattle.bus.specs.Route.{replied}
 use Rattle.bus.specs.Route.Laws.{Outcome, port-there, leads-there, named-there, refused-outcome, port-outcome}
-use Rattle.bus.specs.Route.Laws.{unit-read-outcome, unit-write-outcome, short-outcome, pass-outcome, reset-outcome}
+use Rattle.bus.specs.Route.Laws.{unit-read-outcome, unit-write-outcome, controller-outcome, short-outcome, pass-outcome, reset-outcome}
 use Rattle.bus.specs.View.{machineOf}
 use Rattle.bus.specs.declared.machine.Machine.{Machine}
 use Rattle.bus.specs.declared.reply.Reply.{Reply}
@@ -52,20 +52,26 @@ play-spec =
     -- refused
     (λ c. search needs) (λ c κs. search needs) (λ c κs. search needs) (λ c. search needs)
     (λ c. (search needs, search (needs, length-of), search needs, search (one-more, refused-outcome)))
-    -- a port's call
+    -- a port's call; what the loop's test and its invariant say lies far back
     (λ c. search needs) (λ c. search port-there) (λ c. search port-there) (λ c κs. search needs)
-    (λ c. search port-there) (λ c. search port-there) (λ c κs. search needs) (λ c κs. search needs) (λ c. search needs)
-    (λ c. (
+    (λ c. search port-there) (λ c. search port-there) (λ c κs. search needs) (λ c κs. search needs)
+    (λ c κs.
+    let called = c .before .before .before .before .before in
+    search (needs, called .before .before .before .before .before .before))
+    (λ c. search needs)
+    (λ c.
+    let replies = c .before .before .before in
+    let stepped = replies .before .before in
+    let called = stepped .before .before .before in
+    let led = called .before .before .before .before .before in
+    let port = called .before .before .before .route2 .given .1 in
+    let inv = led .before .before .loop .inv in (
       search needs,
-      search (needs, length-of),
-      search needs,
-      let replies = c .before .before .before in
-          let called = replies .before .before .before in
-          let led = called .before .before .before .before .before in
-          let port = called .before .before .before .route2 .given .1 in
-          turn led _ _ _ _ (c .before .before .put2 .ensures) (replies .of-port .ensures)
-          (port-outcome _ _ _ _ _ _ port (named-there _ _ _ (leads-there _ _ (led .route-at .ensures)) port)
-          (led .before .before .loop .inv .1) (called .call .ensures)),
+      search (needs, length-of, inv),
+      search (needs, inv),
+      turn led _ _ _ _ (c .before .before .put2 .ensures) (replies .of-port .ensures)
+          (port-outcome _ _ _ _ _ _ _ port (named-there _ _ _ (leads-there _ _ (led .route-at .ensures)) port) (inv .1)
+          (called .call .ensures) (stepped .after-port .ensures)),
     ))
     -- a read of the timer unit
     (λ c. search needs) (λ c κs. search needs) (λ c κs. search needs) (λ c κs. search needs) (λ c. search needs)
@@ -73,24 +79,52 @@ play-spec =
     -- a write
     (λ c. search needs) (λ c κs. search needs) (λ c κs. search needs) (λ c κs. search needs) (λ c. search needs)
     (λ c. (search needs, search (needs, length-of), search needs, search (one-more, unit-write-outcome)))
-    -- a span of time before the next tick, and one past it
-    (λ c. search needs) (λ c κs. search needs) (λ c. search needs) (λ c κs. search needs) (λ c κs. search needs) (λ c. search needs)
-    (λ c. (search needs, search (needs, length-of), search needs, search (one-more, short-outcome)))
-    (λ c. search needs) (λ c κs. search needs) (λ c κs. search needs)
-    (λ c κs.
-    -- what the loop's test showed lies far back
-    let spans = c .before .before .before .before .before .before .before .before .before .before .before in
-    search (needs, spans .before .before .before))
-    (λ c. search needs)
-    (λ c. (
+    -- the controller's call
+    (λ c. search needs) (λ c κs. search needs) (λ c κs. search needs) (λ c κs. search needs) (λ c. search needs)
+    (λ c.
+    let replies = c .before .before .before in
+    let called = replies .before .before .before in
+    let routed = called .before .before .before in (
       search needs,
       search (needs, length-of),
       search needs,
-      let replies = c .before .before .before in
-          let passed = replies .before .before .before .before in
-          let spans = passed .before .before .before .before .before .before .before in
-          turn (spans .before .before) _ _ _ _ (c .before .before .put6 .ensures) (replies .of-span2 .ensures)
-          (pass-outcome _ _ _ _ (spans .route5 .given .1) (passed .pass .ensures)),
+      turn (routed .before .before) _ _ _ _ (c .before .before .put5 .ensures) (replies .of-controller .ensures)
+          (controller-outcome _ _ _ _ (routed .route5 .given .1) (called .call2 .ensures)),
+    ))
+    -- a span of time before the next tick, and one past it
+    (λ c. search needs) (λ c κs. search needs) (λ c. search needs) (λ c κs. search needs) (λ c κs. search needs) (λ c. search needs)
+    (λ c.
+    let replies = c .before .before .before in
+    let told = replies .before .before .before .before in
+    let asked = told .before .before in
+    let routed = asked .before .before .before in (
+      search needs,
+      search (needs, length-of),
+      search needs,
+      turn (routed .before .before) _ _ _ _ (c .before .before .put6 .ensures) (replies .of-span .ensures)
+          (short-outcome _ _ _ _ _ _ (routed .route6 .given .1) (asked .before-tick .ensures) (told .cycles .given .1)),
+    ))
+    (λ c. search needs) (λ c κs. search needs) (λ c κs. search needs) (λ c κs. search needs)
+    (λ c κs.
+    let passed = c .before .before .before .before .before .before in
+    let spans = passed .before .before .before .before .before .before .before in
+    search (needs, spans .before .before .before))
+    (λ c.
+    let passed = c .before .before .before .before .before .before .before .before .before in
+    let spans = passed .before .before .before .before .before .before .before in
+    search (needs, spans .before .before .before))
+    (λ c.
+    let replies = c .before .before .before in
+    let stepped = replies .before .before in
+    let passed = stepped .before .before .before .before in
+    let spans = passed .before .before .before .before .before .before .before in
+    let led = spans .before .before in
+    let inv = led .before .before .loop .inv in (
+      search needs,
+      search (needs, length-of, inv),
+      search (needs, inv),
+      turn led _ _ _ _ (c .before .before .put7 .ensures) (replies .of-span2 .ensures)
+          (pass-outcome _ _ _ _ _ (spans .route6 .given .1) (passed .pass .ensures) (stepped .after-pulses .ensures)),
     ))
     -- a reset
     (λ c. search needs) (λ c κs. search needs) (λ c κs. search needs) (λ c κs. search needs) (λ c. search needs)

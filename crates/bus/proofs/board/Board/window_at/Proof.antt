@@ -11,7 +11,7 @@ use Rattle.bus.proofs.board.Board.window_at.Tie as tie
 
 abbrev Inv-loop : tie.InvT-loop
 Inv-loop address self found₀ i₀ found i =
-    (length (self .windows) ≡ 7) × (i ≤ 7) × (found ≡ windowAt address (drop i (self .windows)))
+    (length (self .windows) ≡ 8) × (i ≤ 8) × (found ≡ windowAt address (drop i (self .windows)))
 
 abbrev μ-loop : tie.MeasureT-loop
 μ-loop address self found₀ i₀ found i = i

@@ -1,4 +1,4 @@
--- The loop: the ports are as well formed from each place on as they are from the first. Assumes nothing.
+-- The loop: the ports are as well formed from each place on as they are from the first. Behind it stands the controller. Assumes nothing.
 use borrow.Author.Needs.{needs}
 use Prim.Native.Nat.{_-_}
 use mathlib.Core.Path.{_≡_, refl}
@@ -23,4 +23,4 @@ well-formed-spec =
     tie.close
     (tie.spec Inv-loop μ-loop (λ c. (search length-of, refl)) (λ c. search needs) (λ c. search needs)
     (λ c κs. search needs) (λ c. search needs) (λ c. search needs) (λ c. (search needs, search well-later))
-    (λ c. search ill-here) (λ c. search well-all))
+    (λ c. search ill-here) (λ c κs. search needs) (λ c. search well-all))

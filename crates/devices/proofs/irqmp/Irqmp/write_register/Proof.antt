@@ -1,0 +1,10 @@
+-- Each return follows from the tests that led to it. Assumes nothing.
+use borrow.Author.Needs.{needs}
+use Rattle.devices.specs.Cases.{cases}
+use Rattle.devices.proofs.irqmp.Irqmp.write_register.Statement.{statement}
+use Rattle.devices.proofs.irqmp.Irqmp.write_register.Tie as tie
+
+pub write-register-spec : {M : Type 1} → statement M
+write-register-spec =
+    tie.close
+    (tie.spec (λ c. search cases depth 12) (λ c. search cases depth 12) (λ c. search cases depth 12) (λ c κs. search needs) (λ c. rw (← c .without .ensures) (search cases depth 12)) (λ c. search cases depth 12) (λ c. search cases depth 12) (λ c. search cases depth 12))
