@@ -271,7 +271,8 @@ def register_bits(name, value):
     bits = REGISTER_BITS.get(name.partition(".")[2])
     if bits is None:
         return ""
-    return " ".join(label for bit, label in bits.items() if value >> bit & 1) or "no named bit"
+    none = "no line" if name.startswith("irqmp.") else "no named bit"
+    return " ".join(label for bit, label in bits.items() if value >> bit & 1) or none
 
 
 def value_note(kind, register, value):

@@ -34,6 +34,8 @@ fn call(machine: Machine, which: u8, turn: u64) -> Answer {
         b'k' => machine.advance(1),
         b'l' => machine.skip(10),
         b'o' => machine.advance(1_000_000),
+        // An acknowledge, with no line that waits.
+        b'p' => machine.acknowledge(),
         // A call that only hands the machine back, to be taken off the others' time.
         _ => unmoved(machine),
     }

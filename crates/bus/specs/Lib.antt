@@ -2,7 +2,7 @@
 -- scripts). `Refusal`, `Board`, `Machine`, `Time`, `Call` and `SlowRun` are the definitions, in the words of the papers, and `Cuts`
 -- says how a list of calls is cut; `View` says what of the code's structs counts, and what each call promises. `Route` says
 -- what a route answers, which routes a call may take, and what answer the code's reply stands for; `Private` what private
--- functions promise. `Laws` beside a file follow from its definitions; `Examples` are the papers' own.
+-- functions promise. `Laws` beside a file follow from its definitions; `Examples` are 01's own, and some of 02's rules.
 pub mod Theorems
 pub mod Refusal
 pub mod Board

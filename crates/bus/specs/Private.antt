@@ -5,7 +5,6 @@ use mathlib.Core.List.{[], _∷_}
 use lib.Dec.{eqb, leb}
 use Rattle.devices.specs.Refusal.{notRefused}
 use Rattle.devices.specs.declared.apbuart.Call.the-variants as port
-use Rattle.devices.specs.declared.irqmp.Call.the-variants as controller
 use Rattle.bus.specs.Refusal.{badSize, noWindow, pastWindow, misaligned, notAWord, noPort}
 use Rattle.bus.specs.Call.{_when_, first, isSize, runsPast}
 use Rattle.bus.specs.declared.board.Device.{Device}
@@ -15,7 +14,8 @@ use Rattle.bus.specs.declared.board.Board.{Board}
 use Rattle.bus.specs.declared.board.Found.{Found}
 use Rattle.bus.specs.declared.board.Found.the-variants.{In, Nowhere}
 use Rattle.bus.specs.declared.route.Route.{Route}
-use Rattle.bus.specs.declared.route.Route.the-variants.{Refused, Port, ReadUnit, WriteUnit, Controller}
+use Rattle.bus.specs.declared.route.Route.the-variants.{Refused, Port, Read, Write}
+use Rattle.bus.specs.declared.route.Core.the-variants as core
 
 -- the table's lines for 3 to 5, of an access in a window
 abbrev pub windowNumber : (address size : ℕ) → Window → ℕ
@@ -38,13 +38,13 @@ placeNumber address size number w =
 -- the route of an access of a device
 abbrev pub readRoute : Device → ℕ → Route
 readRoute (device.Port n) offset = Port n (port.Read offset)
-readRoute device.TimerUnit offset = ReadUnit offset
-readRoute device.Controller offset = Controller (controller.Read offset)
+readRoute device.TimerUnit offset = Read offset core.TimerUnit
+readRoute device.Controller offset = Read offset core.Controller
 
 abbrev pub writeRoute : ℕ → Device → ℕ → Route
 writeRoute value (device.Port n) offset = Port n (port.Write offset value)
-writeRoute value device.TimerUnit offset = WriteUnit offset value
-writeRoute value device.Controller offset = Controller (controller.Write offset value)
+writeRoute value device.TimerUnit offset = Write offset value core.TimerUnit
+writeRoute value device.Controller offset = Write offset value core.Controller
 
 -- that of an access: 1, then 2, then 3 to 5, then the device of the window
 abbrev pub windowRoute : (Device → ℕ → Route) → (address size : ℕ) → Found → Route

@@ -10,7 +10,7 @@ use Rattle.devices.specs.Refusal.{notRefused}
 use Rattle.devices.specs.Apbuart as uart
 use Rattle.devices.specs.Apbuart.Call.{answerTo}
 use Rattle.devices.specs.Gptimer as gpt
-use Rattle.devices.specs.Irqmp.Call as controller
+use Rattle.devices.specs.Irqmp as irq
 use Rattle.devices.specs.declared.gptimer.Span as gptimer
 use Rattle.devices.specs.declared.irqmp.Answer as irqmp
 use Rattle.devices.specs.declared.gptimer.Span.the-variants.{Cycles, ToPulse}
@@ -24,7 +24,9 @@ use Rattle.bus.specs.declared.board.Board.{Board}
 use Rattle.bus.specs.declared.machine.Call.{Call}
 use Rattle.bus.specs.declared.reply.Reply.{Reply}
 use Rattle.bus.specs.declared.route.Route.{Route}
-use Rattle.bus.specs.declared.route.Route.the-variants.{Refused, Port, ReadUnit, WriteUnit, Controller, Pass, Reset}
+use Rattle.bus.specs.declared.route.Route.the-variants.{Refused, Port, Read, Write, Acknowledge, Pass, Reset}
+use Rattle.bus.specs.declared.route.Core.{Core}
+use Rattle.bus.specs.declared.route.Core.the-variants.{TimerUnit, Controller}
 
 -- The answer of a call that leaves the machine `after`: of the code's reply,
 abbrev pub replied : Reply → Machine → Answer
@@ -46,9 +48,18 @@ spanAnswer cycles pulses after = answered notRefused false 0 0 cycles pulses aft
 abbrev pub portCalled : ℕ → uart.Answer → Machine → Answer
 portCalled n a m = portAnswer a (step noPulses m (withPort n (a .port) m))
 
--- So is the controller.
+-- The controller answers its own call and is stored; no port changes, so that no level rises.
 abbrev pub controllerCalled : irqmp.Answer → Machine → Answer
 controllerCalled a m = controllerAnswer a (withIrqmp (a .controller) m)
+
+-- The timer unit or the controller answers an access.
+abbrev pub coreRead : Core → ℕ → Machine → Answer
+coreRead TimerUnit offset m = accepted (gpt.read offset (m .unit)) m
+coreRead Controller offset m = controllerCalled (irq.read offset (m .irqmp)) m
+
+abbrev pub coreWritten : Core → (offset value : ℕ) → Machine → Answer
+coreWritten TimerUnit offset value m = accepted 0 (withUnit (gpt.write offset value (m .unit)) m)
+coreWritten Controller offset value m = controllerCalled (irq.write offset value (m .irqmp)) m
 
 -- The machine passes a span.
 abbrev pub passes : gptimer.Span → Machine → Passed
@@ -59,9 +70,9 @@ passes (ToPulse limit) m = time.skip limit m
 unfoldable pub carriedOut : Route → Machine → Answer
 carriedOut (Refused number) m = refused number m
 carriedOut (Port n c) m = portCalled n (answerTo c (portAt n m)) m
-carriedOut (ReadUnit offset) m = accepted (gpt.read offset (m .unit)) m
-carriedOut (WriteUnit offset value) m = accepted 0 (withUnit (gpt.write offset value (m .unit)) m)
-carriedOut (Controller c) m = controllerCalled (controller.answerTo c (m .irqmp)) m
+carriedOut (Read offset core) m = coreRead core offset m
+carriedOut (Write offset value core) m = coreWritten core offset value m
+carriedOut Acknowledge m = controllerCalled (irq.acknowledge (m .irqmp)) m
 carriedOut (Pass span) m = ofSpan (passes span m)
 carriedOut Reset m = accepted 0 (resetState (m .board))
 
@@ -69,9 +80,9 @@ carriedOut Reset m = accepted 0 (resetState (m .board))
 abbrev pub portExists : ℕ → Route → Bool
 portExists ports (Refused number) = true
 portExists ports (Port n c) = ltb n ports
-portExists ports (ReadUnit offset) = true
-portExists ports (WriteUnit offset value) = true
-portExists ports (Controller c) = true
+portExists ports (Read offset core) = true
+portExists ports (Write offset value core) = true
+portExists ports Acknowledge = true
 portExists ports (Pass span) = true
 portExists ports Reset = true
 

@@ -21,7 +21,7 @@ use Rattle.bus.specs.Board.Laws.{one-window}
 use Rattle.bus.specs.Machine as bus
 use Rattle.bus.specs.Machine.{wellFormed}
 use Rattle.bus.specs.Time.{advance, ofSpan}
-use Rattle.bus.specs.Time.Laws.{skip-advance}
+use Rattle.bus.specs.Time.Laws.{skip-advance, skip-unit}
 use Rattle.bus.specs.Call.{byteFor, table, refusal, windowOf, subject}
 use Rattle.bus.specs.Call.Laws as laws
 use Rattle.bus.specs.Call.Laws.{noneGiven}
@@ -35,14 +35,17 @@ use Rattle.bus.specs.declared.machine.Call.the-variants.{Skip}
 
 -- "An idle skip takes a limit and passes the fewest cycles, one or more, whose last has a pulse; if there is none within
 -- the limit it passes the limit." It answers as an advance of the machine by the cycles of a span of its timer unit of which this
--- is true (`Least`, Gptimer/Laws.antt of the devices).
+-- is true (`Least`, Gptimer/Laws.antt of the devices), with that span's pulses.
 pub skip-claim :
     {m : Machine} {limit : ℕ} {a : Answer} → wellFormed (machineOf m) ≡ true → Conforms m (Skip limit) a →
-    (e : Elapsed) × (answerOf a ≡ ofSpan (advance (e .cycles) (machineOf m))) × Least limit (m .unit) e
+    (e : Elapsed) × (answerOf a ≡ ofSpan (advance (e .cycles) (machineOf m))) × (a .pulses ≡ e .pulses) ×
+    Least limit (m .unit) e
 skip-claim {m} {limit} w h =
-    let n = machineOf m in (
+    let n = machineOf m in
+    let skipped = h .answer ∙ laws.skip-well n w limit in (
       gpt.skip limit (m .unit),
-      h .answer ∙ laws.skip-well n w limit ∙ ap ofSpan (skip-advance limit n),
+      skipped ∙ ap ofSpan (skip-advance limit n),
+      ap (λ (x : bus.Answer). x .pulses) (skipped ∙ ap ofSpan (skip-unit limit n)),
       skip-least limit (m .unit),
     )
 

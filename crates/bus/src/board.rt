@@ -146,23 +146,23 @@ impl Lines {
 
     pub const TIMERS: usize = 4;
 
-    // The lines of the timers that had a pulse.
-    pub(crate) fn of_pulses(self, pulses: [u64; 4]) -> u32
+    // The lines of the timers that had a pulse. From the last timer to the first, as the definition joins them.
+    pub(crate) fn of_pulses(self, pulses: [u64; Lines::TIMERS]) -> u32
         ensures { λ r. ⌜ r ≡ time.linesOf (self .timers) (time.pulsed pulses) ⌝ }
     {
         let mut lines = 0;
         let mut i = Self::TIMERS;
         while 0 < i {
             i -= 1;
-            lines = named(0 < pulses[i], self.timers[i]) | lines;
+            lines = line_if(0 < pulses[i], self.timers[i]) | lines;
         }
         lines
     }
 }
 
 // A line, or none.
-fn named(is: bool, line: u32) -> u32
-    ensures { λ r. ⌜ r ≡ cond is line 0 ⌝ }
+fn line_if(set: bool, line: u32) -> u32
+    ensures { λ r. ⌜ r ≡ cond set line 0 ⌝ }
 {
-    if is { line } else { 0 }
+    if set { line } else { 0 }
 }

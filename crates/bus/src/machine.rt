@@ -13,6 +13,7 @@ use crate::board::Board;
 use crate::board::Lines;
 use crate::refusal;
 use crate::reply::Reply;
+use crate::route::Core;
 use crate::route::Route;
 use devices::apbuart::Apbuart;
 use devices::gptimer::BeforeTick;
@@ -214,17 +215,35 @@ impl Machine {
                     self.irqmp = irqmp;
                     reply = Reply::of_port(answer);
                 }
-                Route::ReadUnit { offset } => {
-                    let value = self.unit.read(offset);
-                    reply = Reply::accepted(value);
-                }
-                Route::WriteUnit { offset, value } => {
-                    let unit = self.unit.write(offset, value);
-                    self.unit = unit;
-                    reply = Reply::accepted(0);
-                }
-                Route::Controller(call) => {
-                    let answer = self.irqmp.call(call);
+                Route::Read { offset, core } => match core {
+                    Core::TimerUnit => {
+                        let value = self.unit.read(offset);
+                        reply = Reply::accepted(value);
+                    }
+                    Core::Controller => {
+                        let answer = self.irqmp.read(offset);
+                        reply = Reply::of_controller(answer);
+                    }
+                },
+                Route::Write {
+                    offset,
+                    value,
+                    core,
+                } => match core {
+                    Core::TimerUnit => {
+                        let unit = self.unit.write(offset, value);
+                        self.unit = unit;
+                        reply = Reply::accepted(0);
+                    }
+                    Core::Controller => {
+                        let answer = self.irqmp.write(offset, value);
+                        let irqmp = answer.controller;
+                        self.irqmp = irqmp;
+                        reply = Reply::of_controller(answer);
+                    }
+                },
+                Route::Acknowledge => {
+                    let answer = self.irqmp.acknowledge();
                     let irqmp = answer.controller;
                     self.irqmp = irqmp;
                     reply = Reply::of_controller(answer);

@@ -15,18 +15,23 @@ use crate::machine::Call;
 use crate::refusal;
 use devices::apbuart;
 use devices::gptimer::Span;
-use devices::irqmp;
 
-// The order is that of their numbers in the compiled program: with that of a refusal next to that of a port's call the compiler
-// makes a sum of the test between them, and then no jump of its own to each arm.
+// A device of which a board has one.
+pub enum Core {
+    TimerUnit,
+    Controller,
+}
+
+// The order is that of their numbers in the compiled program, and what the cases hold is much alike, so that the compiler gives each
+// kind of call a jump of its own to its arm (docs/PERFORMANCE.md).
 pub enum Route {
     // Port n answers its own call.
     Port { n: usize, call: apbuart::Call },
-    // The timer unit answers an access.
-    ReadUnit { offset: u32 },
-    WriteUnit { offset: u32, value: u32 },
-    // The controller answers its own call.
-    Controller(irqmp::Call),
+    // The timer unit or the controller answers an access.
+    Read { offset: u32, core: Core },
+    Write { offset: u32, value: u32, core: Core },
+    // The controller is asked for the line that the processor takes.
+    Acknowledge,
     // Time passes.
     Pass(Span),
     // The call is refused with this number.
@@ -50,7 +55,7 @@ impl Route {
             Call::Advance(cycles) => Route::Pass(Span::Cycles(cycles)),
             Call::Skip(limit) => Route::Pass(Span::ToPulse(limit)),
             Call::Reset => Route::Reset,
-            Call::Acknowledge => Route::Controller(irqmp::Call::Acknowledge),
+            Call::Acknowledge => Route::Acknowledge,
             Call::Malformed => Route::Refused(refusal::BAD_RECORD),
         }
     }
@@ -110,8 +115,14 @@ impl Route {
                 n: n as usize,
                 call: apbuart::Call::Read { offset },
             },
-            Device::TimerUnit => Route::ReadUnit { offset },
-            Device::Controller => Route::Controller(irqmp::Call::Read { offset }),
+            Device::TimerUnit => Route::Read {
+                offset,
+                core: Core::TimerUnit,
+            },
+            Device::Controller => Route::Read {
+                offset,
+                core: Core::Controller,
+            },
         }
     }
 
@@ -123,8 +134,16 @@ impl Route {
                 n: n as usize,
                 call: apbuart::Call::Write { offset, value },
             },
-            Device::TimerUnit => Route::WriteUnit { offset, value },
-            Device::Controller => Route::Controller(irqmp::Call::Write { offset, value }),
+            Device::TimerUnit => Route::Write {
+                offset,
+                value,
+                core: Core::TimerUnit,
+            },
+            Device::Controller => Route::Write {
+                offset,
+                value,
+                core: Core::Controller,
+            },
         }
     }
 }

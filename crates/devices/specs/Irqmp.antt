@@ -2,7 +2,6 @@
 -- numbers" of a device's own call. One definition a rule, under the sentence that it states, in the request's order; what several
 -- rules use stands before them. Every field of the code's struct is a register, so the definitions are on that struct. A register
 -- has one bit a line: bit n is line n.
-pub mod Call
 pub mod Laws
 pub mod Words
 use Prim.Native.Nat.{ℕ, zero, suc, _^_}
@@ -97,8 +96,8 @@ writeRegister offset value c =
 
 -- "A pulse of timer n sets pending line 7+n; a line level rising from 0 to 1 sets the port's line": the lines of a word become
 -- pending, of those that pending keeps. Whose line is which, the board says.
-abbrev pub linesSet : ℕ → Irqmp → Irqmp
-linesSet lines c = withPending (bitOr (c .pending) (bitAnd lines lines1To31)) c
+abbrev pub withLines : ℕ → Irqmp → Irqmp
+withLines lines c = withPending (bitOr (c .pending) (bitAnd lines lines1To31)) c
 
 -- "A line waits when pending or forced, and its mask bit is 1."
 abbrev pub waits : Irqmp → ℕ → Bool
@@ -134,6 +133,7 @@ take n c =
 abbrev pub take12 : Irqmp → Irqmp
 take12 c = withExtended (extendedLine c) (take (orElse (extendedLine c) 12) c)
 
+-- Taking no line, 0, changes nothing; another line than 12 leaves the number noted.
 abbrev pub taken : ℕ → Irqmp → Irqmp
 taken n c = cond (eqb n 0) c (cond (eqb n 12) (take12 c) (take n c))
 
@@ -158,7 +158,7 @@ unfoldable pub write : ℕ → ℕ → Irqmp → Answer
 write offset value c = guarded c (accepted 0 (writeRegister offset value c))
 
 unfoldable pub setPending : ℕ → Irqmp → Answer
-setPending lines c = guarded c (accepted 0 (linesSet lines c))
+setPending lines c = guarded c (accepted 0 (withLines lines c))
 
 unfoldable pub acknowledge : Irqmp → Answer
 acknowledge c = guarded c (accepted (lineTaken c) (taken (lineTaken c) c))

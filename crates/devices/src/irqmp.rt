@@ -2,29 +2,23 @@
 // processor takes. A word of lines has one bit a line. Each public call answers what `specs/Irqmp.antt` defines, on every
 // controller and every argument.
 ghost use mathlib.Core.Path.{_≡_};
-ghost use mathlib.Core.Bool.{cond};
-ghost use Prim.Native.Nat.{_^_, _≤_, _<_};
+ghost use Prim.Native.Nat.{_^_, _<_};
 ghost use Rattle.devices.specs.Word as words;
 ghost use Rattle.devices.specs.Word.{bit};
 ghost use Rattle.devices.specs.Irqmp as irq;
-ghost use Rattle.devices.specs.Irqmp.Call.{answerTo};
 ghost use Rattle.devices.specs.Irqmp.Words as lines;
 use crate::refusal;
 
 pub struct Irqmp {
+    // The lines that go first.
     pub level: u32,
+    // The lines that were set and not yet taken, and those that software forces.
     pub pending: u32,
     pub force: u32,
+    // The lines that may be taken.
     pub mask: u32,
     // Extended acknowledge: the number that was noted last, an extended line or 0.
     pub extended: u32,
-}
-
-// A call that a bus or a processor makes on the controller.
-pub enum Call {
-    Read { offset: u32 },
-    Write { offset: u32, value: u32 },
-    Acknowledge,
 }
 
 // What a call on a controller answers.
@@ -149,7 +143,7 @@ impl Irqmp {
         ensures { λ r. ⌜ r ≡ irq.setPending lines self ⌝ }
     {
         if self.well_formed() {
-            Answer::accepted(0, self.lines_set(lines))
+            Answer::accepted(0, self.with_lines(lines))
         } else {
             Answer::refused(refusal::ILL_FORMED, self)
         }
@@ -164,17 +158,6 @@ impl Irqmp {
             Answer::accepted(n, self.taken(n))
         } else {
             Answer::refused(refusal::ILL_FORMED, self)
-        }
-    }
-
-    // A read, a write or an acknowledge, as a value.
-    pub fn call(self, call: Call) -> Answer
-        ensures { λ r. ⌜ r ≡ answerTo call self ⌝ }
-    {
-        match call {
-            Call::Read { offset } => self.read(offset),
-            Call::Write { offset, value } => self.write(offset, value),
-            Call::Acknowledge => self.acknowledge(),
         }
     }
 
@@ -231,8 +214,8 @@ impl Irqmp {
         self
     }
 
-    fn lines_set(mut self, lines: u32) -> Self
-        ensures { λ r. ⌜ r ≡ irq.linesSet lines self ⌝ }
+    fn with_lines(mut self, lines: u32) -> Self
+        ensures { λ r. ⌜ r ≡ irq.withLines lines self ⌝ }
     {
         self.pending = self.pending | (lines & Self::LINES_1_TO_31);
         self

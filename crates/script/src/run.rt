@@ -19,6 +19,7 @@ use crate::record::decode;
 use bus::machine::Machine;
 use bus::refusal;
 use bus::reply::Reply;
+use bus::route::Core;
 use bus::route::Route;
 use devices::gptimer::BeforeTick;
 
@@ -84,7 +85,7 @@ fn run_records(machine: Machine, script: &[u8], log: &mut [u8], count: usize) ->
 }
 
 // Every call on a well-formed machine leaves one, so the test for 9 is once a run. The machine is a local of this loop, and
-// each route is carried out here: only what changed is stored, a device or the prescaler's value alone, and the machine is not
+// each route is carried out here: only what changed is stored, devices or the prescaler's value alone, and the machine is not
 // moved. (`Machine::call` has the same arms, by value.)
 fn play(machine: Machine, script: &[u8], log: &mut [u8], count: usize) -> Machine
     requires { ⌜ scripts.recordLength * count < length (now script) + scripts.recordLength ⌝ }
@@ -110,17 +111,35 @@ fn play(machine: Machine, script: &[u8], log: &mut [u8], count: usize) -> Machin
                 machine.irqmp = irqmp;
                 entry::put(log, at, Reply::of_port(answer), machine);
             }
-            Route::ReadUnit { offset } => {
-                let value = machine.unit.read(offset);
-                entry::put(log, at, Reply::accepted(value), machine);
-            }
-            Route::WriteUnit { offset, value } => {
-                let unit = machine.unit.write(offset, value);
-                machine.unit = unit;
-                entry::put(log, at, Reply::accepted(0), machine);
-            }
-            Route::Controller(call) => {
-                let answer = machine.irqmp.call(call);
+            Route::Read { offset, core } => match core {
+                Core::TimerUnit => {
+                    let value = machine.unit.read(offset);
+                    entry::put(log, at, Reply::accepted(value), machine);
+                }
+                Core::Controller => {
+                    let answer = machine.irqmp.read(offset);
+                    entry::put(log, at, Reply::of_controller(answer), machine);
+                }
+            },
+            Route::Write {
+                offset,
+                value,
+                core,
+            } => match core {
+                Core::TimerUnit => {
+                    let unit = machine.unit.write(offset, value);
+                    machine.unit = unit;
+                    entry::put(log, at, Reply::accepted(0), machine);
+                }
+                Core::Controller => {
+                    let answer = machine.irqmp.write(offset, value);
+                    let irqmp = answer.controller;
+                    machine.irqmp = irqmp;
+                    entry::put(log, at, Reply::of_controller(answer), machine);
+                }
+            },
+            Route::Acknowledge => {
+                let answer = machine.irqmp.acknowledge();
                 let irqmp = answer.controller;
                 machine.irqmp = irqmp;
                 entry::put(log, at, Reply::of_controller(answer), machine);

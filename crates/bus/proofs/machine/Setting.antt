@@ -1,10 +1,10 @@
 -- The controller after a step, from what the code tested. Assumes nothing.
 use Prim.Native.Nat.{ℕ, _≤_}
-use mathlib.Core.Path.{_≡_, refl, sym, ap, _∙_}
+use mathlib.Core.Path.{_≡_, refl, sym}
 use mathlib.Core.Bool.{Bool, true, false, cond}
 use mathlib.Core.List.{List}
 use native.Mathlib.Omega.{arith}
-use lib.ListN.{length, getD, List·getD-eq-default}
+use lib.ListN.{getD, List·getD-eq-default}
 use Rattle.devices.specs.Irqmp as irq
 use Rattle.devices.specs.Irqmp.Laws.{set-none}
 use Rattle.devices.specs.declared.irqmp.Irqmp.{Irqmp}

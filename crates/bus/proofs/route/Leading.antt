@@ -41,7 +41,6 @@ use Rattle.bus.specs.declared.route.Route.{Route}
 use Rattle.bus.specs.declared.route.Route.the-variants.{Refused}
 use Rattle.bus.specs.declared.route.Route.the-variants as to
 use Rattle.devices.specs.declared.gptimer.Span.the-variants as span
-use Rattle.devices.specs.declared.irqmp.Call.the-variants as control
 
 -- Where a call leads.
 unfoldable pub route : Board → Call → Route
@@ -51,7 +50,7 @@ route b (Offer n byte) = offerRoute b n byte
 route b (Advance cycles) = to.Pass (span.Cycles cycles)
 route b (Skip limit) = to.Pass (span.ToPulse limit)
 route b Reset = to.Reset
-route b Acknowledge = to.Controller control.Acknowledge
+route b Acknowledge = to.Acknowledge
 route b Malformed = Refused badRecord
 
 -- what a port answers that does not refuse

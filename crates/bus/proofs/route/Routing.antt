@@ -7,7 +7,6 @@ use borrow.Author.Tests.{eqb-true, eq-eqb, ne-eqb}
 use Rattle.devices.specs.Cases.{passed, failed}
 use Rattle.devices.specs.Refusal.{notRefused}
 use Rattle.devices.specs.declared.apbuart.Call.the-variants as port
-use Rattle.devices.specs.declared.irqmp.Call.the-variants as controller
 use Rattle.bus.specs.Refusal.{badSize, noWindow, notAWord}
 use Rattle.bus.specs.Call.{isSize}
 use Rattle.bus.specs.Private.{windowNumber, placeNumber, readRoute, writeRoute, accessRoute}
@@ -17,7 +16,8 @@ use Rattle.bus.specs.declared.board.Device.the-variants as device
 use Rattle.bus.specs.declared.board.Found.{Found}
 use Rattle.bus.specs.declared.board.Found.the-variants.{In, Nowhere}
 use Rattle.bus.specs.declared.route.Route.{Route}
-use Rattle.bus.specs.declared.route.Route.the-variants.{Refused, Port, ReadUnit, WriteUnit, Controller}
+use Rattle.bus.specs.declared.route.Route.the-variants.{Refused, Port, Read, Write}
+use Rattle.bus.specs.declared.route.Core.the-variants as core
 
 -- the number of an access in a window, by its size
 module _ (r address size : ℕ) (w : Window) where
@@ -40,20 +40,20 @@ module _ (d : Device) (offset : ℕ) where
   pub reads-port : (n : ℕ) → d ≡ device.Port n → Port n (port.Read offset) ≡ readRoute d offset
   reads-port n e = rw e refl
 
-  pub reads-unit : d ≡ device.TimerUnit → ReadUnit offset ≡ readRoute d offset
+  pub reads-unit : d ≡ device.TimerUnit → Read offset core.TimerUnit ≡ readRoute d offset
   reads-unit e = rw e refl
 
-  pub reads-controller : d ≡ device.Controller → Controller (controller.Read offset) ≡ readRoute d offset
+  pub reads-controller : d ≡ device.Controller → Read offset core.Controller ≡ readRoute d offset
   reads-controller e = rw e refl
 
   pub writes-port : (n value : ℕ) → d ≡ device.Port n → Port n (port.Write offset value) ≡ writeRoute value d offset
   writes-port n value e = rw e refl
 
-  pub writes-unit : (value : ℕ) → d ≡ device.TimerUnit → WriteUnit offset value ≡ writeRoute value d offset
+  pub writes-unit : (value : ℕ) → d ≡ device.TimerUnit → Write offset value core.TimerUnit ≡ writeRoute value d offset
   writes-unit value e = rw e refl
 
   pub writes-controller :
-      (value : ℕ) → d ≡ device.Controller → Controller (controller.Write offset value) ≡ writeRoute value d offset
+      (value : ℕ) → d ≡ device.Controller → Write offset value core.Controller ≡ writeRoute value d offset
   writes-controller value e = rw e refl
 
 -- an access, by the code's tests

@@ -1,8 +1,8 @@
 -- What comes of a route on a machine of the code, from what its device answered: for whoever carries routes out, by value
 -- (`Machine::call`) or where the machine lies (a run). Assumes nothing.
-use Prim.Native.Nat.{ℕ, zero, suc, _*_, _^_, _≤_, _<_}
+use Prim.Native.Nat.{ℕ, zero, suc, _*_, _^_, _<_}
 use mathlib.Core.Path.{_≡_, refl, sym, ap, _∙_}
-use mathlib.Core.Bool.{Bool, true, cond}
+use mathlib.Core.Bool.{true, cond}
 use mathlib.Core.List.{List, [], _∷_, map}
 use native.Mathlib.Omega.{arith}
 use lib.Dec.{lit<}
@@ -19,8 +19,7 @@ use Rattle.devices.specs.Apbuart.View as port
 use Rattle.devices.specs.Apbuart.View.{portOf}
 use Rattle.devices.specs.Gptimer as gpt
 use Rattle.devices.specs.Irqmp as irq
-use Rattle.devices.specs.Irqmp.Call as controller
-use Rattle.devices.specs.Irqmp.Laws.{set-none, call-same}
+use Rattle.devices.specs.Irqmp.Laws.{set-none, read-same, write-same, acknowledge-same}
 use Rattle.devices.specs.Gptimer.Span.{pass, countedDown, Tells}
 use Rattle.devices.specs.declared.apbuart.Apbuart.{Apbuart}
 use Rattle.devices.specs.declared.apbuart.Answer as apbuart
@@ -33,18 +32,19 @@ use Rattle.devices.specs.declared.gptimer.BeforeTick.{BeforeTick}
 use Rattle.devices.specs.declared.gptimer.BeforeTick.the-variants.{Yes}
 use Rattle.devices.specs.declared.irqmp.Irqmp.{Irqmp}
 use Rattle.devices.specs.declared.irqmp.Answer as irqmp
-use Rattle.devices.specs.declared.irqmp.Call as control
 use Rattle.bus.specs.Board.{gr712rc}
 use Rattle.bus.specs.Machine as bus
 use Rattle.bus.specs.Time as time
 use Rattle.bus.specs.Time.{linesOf, pulsed, rises}
 use Rattle.bus.specs.Time.Laws.{still, quiet-lines, port-step, ofUnit, advance-unit, skip-unit}
-use Rattle.bus.specs.Route.{portAnswer, controllerAnswer, spanAnswer, passes, carriedOut, portExists, Leads}
+use Rattle.bus.specs.Route.{portAnswer, controllerAnswer, controllerCalled, spanAnswer, passes, carriedOut, portExists, Leads}
 use Rattle.bus.specs.View.{machineOf}
 use Rattle.bus.specs.declared.machine.Machine.{Machine}
 use Rattle.bus.specs.declared.machine.Call as machine
 use Rattle.bus.specs.declared.route.Route.{Route}
-use Rattle.bus.specs.declared.route.Route.the-variants.{Refused, Port, ReadUnit, WriteUnit, Controller, Pass, Reset}
+use Rattle.bus.specs.declared.route.Route.the-variants.{Refused, Port, Read, Write, Acknowledge, Pass, Reset}
+use Rattle.bus.specs.declared.route.Core.{Core}
+use Rattle.bus.specs.declared.route.Core.the-variants.{TimerUnit, Controller}
 
 abbrev pub storePort : ℕ → Apbuart → Machine → Machine
 storePort n p m = record { ports = set (m .ports) n p; unit = m .unit; irqmp = m .irqmp }
@@ -111,22 +111,6 @@ module _ (m : Machine) (route : Route) where
             rw (back, none, set-getD (m .ports) n z) refl;
       }
 
-  pub controller-outcome :
-      (c : control.Call) (x : irqmp.Answer) → route ≡ Controller c → x ≡ controller.answerTo c (m .irqmp) →
-      Outcome m route (controllerAnswer x (machineOf (storeIrqmp (x .controller) m))) (storeIrqmp (x .controller) m)
-  unfolding carriedOut
-  controller-outcome c x e f =
-      record {
-        answer = rw (e, ← f) refl;
-        machine = refl;
-        same =
-            λ refused.
-            let back : x .controller ≡ m .irqmp =
-            ap (λ (a : irqmp.Answer). a .controller) f ∙
-            call-same c (m .irqmp) (λ z. refused (ap (λ (a : irqmp.Answer). a .refusal) f ∙ z)) in
-            rw back refl;
-      }
-
   -- what is never refused
   accepted-outcome :
       (a : bus.Answer) (next : Machine) → carriedOut route (machineOf m) ≡ a → a .machine ≡ machineOf next →
@@ -134,16 +118,49 @@ module _ (m : Machine) (route : Route) where
   accepted-outcome a next e f z = record { answer = e; machine = f; same = λ refused. absurd (refused z) }
 
   pub unit-read-outcome :
-      (offset value : ℕ) → route ≡ ReadUnit offset → value ≡ gpt.read offset (m .unit) →
+      (core : Core) (offset value : ℕ) → route ≡ Read offset core → core ≡ TimerUnit → value ≡ gpt.read offset (m .unit) →
       Outcome m route (bus.accepted value (machineOf m)) m
   unfolding carriedOut
-  unit-read-outcome offset value e f = accepted-outcome _ m (rw (e, f) refl) refl refl
+  unit-read-outcome core offset value e k f = accepted-outcome _ m (rw (e, k, f) refl) refl refl
 
   pub unit-write-outcome :
-      (offset value : ℕ) (u : Gptimer) → route ≡ WriteUnit offset value → u ≡ gpt.write offset value (m .unit) →
-      Outcome m route (bus.accepted 0 (machineOf (storeUnit u m))) (storeUnit u m)
+      (core : Core) (offset value : ℕ) (u : Gptimer) → route ≡ Write offset value core → core ≡ TimerUnit →
+      u ≡ gpt.write offset value (m .unit) → Outcome m route (bus.accepted 0 (machineOf (storeUnit u m))) (storeUnit u m)
   unfolding carriedOut
-  unit-write-outcome offset value u e f = accepted-outcome _ (storeUnit u m) (rw (e, f) refl) refl refl
+  unit-write-outcome core offset value u e k f = accepted-outcome _ (storeUnit u m) (rw (e, k, f) refl) refl refl
+
+  -- what the controller answers
+  controlled :
+      (x : irqmp.Answer) → carriedOut route (machineOf m) ≡ controllerCalled x (machineOf m) →
+      ((x .refusal ≡ notRefused → ⊥) → x .controller ≡ m .irqmp) →
+      Outcome m route (controllerAnswer x (machineOf (storeIrqmp (x .controller) m))) (storeIrqmp (x .controller) m)
+  controlled x e back = record { answer = e; machine = refl; same = λ refused. rw (back refused) refl }
+
+  pub controller-read-outcome :
+      (core : Core) (offset : ℕ) (x : irqmp.Answer) → route ≡ Read offset core → core ≡ Controller →
+      x ≡ irq.read offset (m .irqmp) → Outcome m route (controllerAnswer x (machineOf m)) m
+  unfolding carriedOut
+  controller-read-outcome core offset x e k f =
+      let kept : x .controller ≡ m .irqmp = ap (λ (a : irqmp.Answer). a .controller) f ∙ read-same offset (m .irqmp) in
+      record {
+        answer = rw (e, k, ← f) (ap (λ (c : Irqmp). controllerAnswer x (machineOf (storeIrqmp c m))) kept);
+        machine = refl;
+        same = λ refused. refl;
+      }
+
+  pub controller-write-outcome :
+      (core : Core) (offset value : ℕ) (x : irqmp.Answer) → route ≡ Write offset value core → core ≡ Controller →
+      x ≡ irq.write offset value (m .irqmp) →
+      Outcome m route (controllerAnswer x (machineOf (storeIrqmp (x .controller) m))) (storeIrqmp (x .controller) m)
+  unfolding carriedOut
+  controller-write-outcome core offset value x e k f =
+      controlled x (rw (e, k, ← f) refl) (rw f (write-same offset value (m .irqmp)))
+
+  pub acknowledge-outcome :
+      (x : irqmp.Answer) → route ≡ Acknowledge → x ≡ irq.acknowledge (m .irqmp) →
+      Outcome m route (controllerAnswer x (machineOf (storeIrqmp (x .controller) m))) (storeIrqmp (x .controller) m)
+  unfolding carriedOut
+  acknowledge-outcome x e f = controlled x (rw (e, ← f) refl) (rw f (acknowledge-same (m .irqmp)))
 
   pub pass-outcome :
       (span : Span) (x : Elapsed) (d : Irqmp) → route ≡ Pass span → x ≡ pass span (m .unit) →

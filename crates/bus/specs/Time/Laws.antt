@@ -1,7 +1,7 @@
 -- What follows from the definitions of a step and of time, for every board. Assumes nothing.
 use Prim.Native.Nat.{ℕ, zero, suc, _+_, _≤_}
 use mathlib.Core.Path.{_≡_, refl, sym, ap, _∙_}
-use mathlib.Core.Bool.{Bool, true, false, cond, not, _&&_, _||_, true≢false}
+use mathlib.Core.Bool.{Bool, true, false, cond, _||_, true≢false}
 use mathlib.Core.List.{List, [], _∷_}
 use native.Mathlib.Nat.{zero-add, suc-add}
 use native.Mathlib.Omega.{arith}
@@ -18,11 +18,10 @@ use Rattle.devices.specs.Gptimer.Laws.{skip-least}
 use Rattle.devices.specs.Gptimer.Pulses.{some-pulse, any-none, none-advance, adds-assoc}
 use Rattle.devices.specs.Irqmp as irq
 use Rattle.devices.specs.Irqmp.Laws.{set-none, set-both}
-use Rattle.devices.specs.declared.gptimer.Timer.{Timer}
 use Rattle.devices.specs.declared.gptimer.Elapsed.{Elapsed}
 use Rattle.bus.specs.Machine.{Machine, portAt, withPort, withUnit, withIrqmp, noPulses, accepted}
-use Rattle.bus.specs.Time.{linesOf, pulsed, rises, risen, linesSet, step, stepped, cyclePulses, cycle}
-use Rattle.bus.specs.Time.{Passed, noCycle, cycleThen, advance, skip}
+use Rattle.bus.specs.Time.{linesOf, pulsed, rises, risen, step, stepped, cyclePulses, cycle}
+use Rattle.bus.specs.Time.{Passed, cycleThen, advance, skip}
 
 -- No level rises where the ports stay, and no line is set without a pulse. So a step that leaves the ports alone sets nothing.
 pub still : (b : Bool) → rises b b ≡ false
@@ -54,7 +53,7 @@ pub quiet-answer :
 quiet-answer value m after e = ap (accepted value) (quiet-step m after e)
 
 -- A step that changes one port sets that port's line at most.
-pub one-rise :
+one-rise :
     (lines : List ℕ) (ps : List Port) (n : ℕ) (q : Port) → length lines ≤ length ps →
     linesOf lines (risen ps (set ps n q)) ≡ cond (rises (getD ps n uart.resetState .level) (q .level)) (getD lines n 0) 0
 one-rise [] ps n q l = sym (same {A = ℕ} (rises (getD ps n uart.resetState .level) (q .level)) 0)
@@ -63,13 +62,13 @@ one-rise (line ∷ lines) (p ∷ ps) zero q l = rw (ports-still lines ps) (or-ze
 one-rise (line ∷ lines) (p ∷ ps) (suc n) q l = rw (still (p .level)) (one-rise lines ps n q (omega arith))
 
 -- A machine with lines set.
-abbrev pub withLines : ℕ → Machine → Machine
-withLines lines m = withIrqmp (irq.setPending lines (m .irqmp) .controller) m
+abbrev setLines : ℕ → Machine → Machine
+setLines lines m = withIrqmp (irq.setPending lines (m .irqmp) .controller) m
 
 pub port-step :
     (n : ℕ) (q : Port) (m : Machine) → length (m .board .lines .ports) ≤ length (m .ports) →
     step noPulses m (withPort n q m) ≡
-    withLines (cond (rises (portAt n m .level) (q .level)) (getD (m .board .lines .ports) n 0) 0) (withPort n q m)
+    setLines (cond (rises (portAt n m .level) (q .level)) (getD (m .board .lines .ports) n 0) 0) (withPort n q m)
 port-step n q m l =
     rw (quiet-lines (m .board .lines .timers) noPulses refl, one-rise (m .board .lines .ports) (m .ports) n q l) refl
 
@@ -101,12 +100,12 @@ ofUnit e m =
     record {
       cycles = e .cycles;
       pulses = e .pulses;
-      machine = withLines (linesOf (m .board .lines .timers) (pulsed (e .pulses))) (withUnit (e .unit) m);
+      machine = setLines (linesOf (m .board .lines .timers) (pulsed (e .pulses))) (withUnit (e .unit) m);
     }
 
 cycle-unit :
     (m : Machine) →
-    cycle m ≡ withLines (linesOf (m .board .lines .timers) (pulsed (cyclePulses m))) (withUnit (gpt.cycle (m .unit)) m)
+    cycle m ≡ setLines (linesOf (m .board .lines .timers) (pulsed (cyclePulses m))) (withUnit (gpt.cycle (m .unit)) m)
 unfolding cycle
 cycle-unit m = rw (ports-still (m .board .lines .ports) (m .ports), or-zero-r) refl
 
@@ -138,7 +137,7 @@ skip-unit n m =
     ap (λ (e : Elapsed). ofUnit e m) (sym (skip-least n (m .unit) .advances))
 
 -- Time may be cut anywhere.
-abbrev pub consecutive : Passed → Passed → Passed
+abbrev consecutive : Passed → Passed → Passed
 consecutive p q =
     record { cycles = p .cycles + q .cycles; pulses = addPulses (p .pulses) (q .pulses); machine = q .machine }
 

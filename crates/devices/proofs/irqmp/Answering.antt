@@ -1,23 +1,20 @@
 -- What a call on the controller answers, from the tests that led to a return and from what other calls answered. Assumes nothing.
 use Prim.Native.Nat.{ℕ, _*_, _-_, _^_, _%_, _≤_, _<_}
-use mathlib.Core.Path.{_≡_, refl, sym, _∙_}
-use mathlib.Core.Bool.{Bool, true, false, cond, _&&_, _||_}
+use mathlib.Core.Path.{_≡_, refl}
+use mathlib.Core.Bool.{Bool, true, false, _&&_, _||_}
 use native.Mathlib.Nat.{one-mul, mod-eq-of-lt}
 use native.Mathlib.Omega.{arith}
 use lib.Bits.{bitAnd, bitOr}
 use lib.Count.{leadingZeros, leading-top}
-use lib.Dec.{eqb}
 use lib.Pow.{pow-lt}
-use borrow.Author.Tests.{not-true, not-false, eq-eqb, ne-eqb}
+use borrow.Author.Tests.{not-true, not-false, ne-eqb}
 use Rattle.devices.specs.Cases.{cases}
 use Rattle.devices.specs.Refusal.{illFormed}
 use Rattle.devices.specs.Word.{bit, without}
 use Rattle.devices.specs.Irqmp as irq
-use Rattle.devices.specs.Irqmp.Call.{answerTo}
 use Rattle.devices.specs.Irqmp.Words.{highestIn, waiting, reaching, highest-top}
 use Rattle.devices.specs.declared.irqmp.Irqmp.{Irqmp}
 use Rattle.devices.specs.declared.irqmp.Answer.{Answer}
-use Rattle.devices.specs.declared.irqmp.Call.{Call}
 
 -- The highest line of a word.
 pub none : (word : ℕ) → word ≡ 0 → 0 ≡ highestIn word
@@ -84,7 +81,3 @@ module _ (c : Irqmp) where
 
     pub is-ill : (a : Answer) → r ≡ false → x ≡ irq.refused illFormed c → x ≡ irq.guarded c a
     is-ill a t k = rw (← e, t) k
-
-  -- a call by its variant
-  pub by-variant : (k v : Call) (a : Answer) → k ≡ v → a ≡ answerTo v c → a ≡ answerTo k c
-  by-variant k v a e f = rw e f

@@ -3,23 +3,20 @@ pub mod Order
 use Prim.Native.Nat.{ℕ, zero, suc, _-_, _≤_, _<_}
 use mathlib.Core.Path.{_≡_, refl, sym, ap, _∙_}
 use mathlib.Core.Bool.{Bool, true, false, cond, _&&_, _||_, and-eq-true-iff}
-use native.Mathlib.Decide.{decLt, ℕ-discrete}
+use native.Mathlib.Decide.{ℕ-discrete}
 use native.Mathlib.Omega.{arith}
 use lib.Bits.{bitAnd, bitOr, and-self, and-comm, or-zero-r}
 use lib.Dec.{eqb, leb}
-use borrow.Author.Tests.{eq-eqb, eqb-true, le-leb, lt-leb}
+use borrow.Author.Tests.{eq-eqb, eqb-true, le-leb}
 use Rattle.devices.specs.Cases.{chosen, tested}
 use Rattle.devices.specs.Refusal.{notRefused}
-use Rattle.devices.specs.Word.{bit, without}
+use Rattle.devices.specs.Word.{without}
 use Rattle.devices.specs.Word.Laws.{and-assoc, or-assoc, or-and}
 use Rattle.devices.specs.Irqmp.{lines1To15, lines1To31, within, mayBeNoted, wellFormed, resetState}
-use Rattle.devices.specs.Irqmp.{withLevel, withPending, withForce, withMask, withExtended, writeRegister, linesSet}
+use Rattle.devices.specs.Irqmp.{withLevel, withPending, withForce, withMask, withExtended, writeRegister, withLines}
 use Rattle.devices.specs.Irqmp.{waits, highest, extendedLine, orElse, lineTaken, take, take12, taken}
-use Rattle.devices.specs.Irqmp.Call.{answerTo}
 use Rattle.devices.specs.Irqmp.{accepted, guarded, read, write, setPending, acknowledge, reset}
 use Rattle.devices.specs.declared.irqmp.Irqmp.{Irqmp}
-use Rattle.devices.specs.declared.irqmp.Call.{Call}
-use Rattle.devices.specs.declared.irqmp.Call.the-variants.{Read, Write, Acknowledge}
 
 -- The highest line that passes a test, where two tests agree on the lines looked at, and where no line above k passes.
 pub highest-same : (k : ℕ) (s t : ℕ → Bool) → ((n : ℕ) → 0 < n → n ≤ k → s n ≡ t n) → highest k s ≡ highest k t
@@ -175,7 +172,7 @@ module _ (c : Irqmp) (w : wellFormed c ≡ true) where
   force-cleared : (ones : ℕ) → wellFormed (withForce (without ones (c .force)) c) ≡ true
   force-cleared ones = force-is _ (fewer-within lines1To15 (c .force) (0xFFFFFFFF - ones) (well-of c w .forces))
 
-  set-well : (lines : ℕ) → wellFormed (linesSet lines c) ≡ true
+  set-well : (lines : ℕ) → wellFormed (withLines lines c) ≡ true
   set-well lines = pending-is _ (more-within lines1To31 (c .pending) lines (well-of c w .pendings))
 
   written-well : (offset value : ℕ) → wellFormed (writeRegister offset value c) ≡ true
@@ -217,18 +214,25 @@ pub reset-keeps : (c : Irqmp) → wellFormed (reset c .controller) ≡ wellForme
 unfolding reset wellFormed
 reset-keeps c = keeps c resetState 0 (λ w. refl)
 
--- A refused call changes nothing.
+-- A refused call changes nothing, and a read never does.
 refused-same :
     (c d : Irqmp) (value : ℕ) → (guarded c (accepted value d) .refusal ≡ notRefused → ⊥) →
     guarded c (accepted value d) .controller ≡ c
 refused-same c d value refused =
     tested (wellFormed c) (λ w. absurd (refused (rw w refl))) (λ ill. rw ill refl)
 
-pub call-same : (k : Call) (c : Irqmp) → (answerTo k c .refusal ≡ notRefused → ⊥) → answerTo k c .controller ≡ c
-unfolding read write acknowledge
-call-same (Read offset) c = refused-same c _ _
-call-same (Write offset value) c = refused-same c _ _
-call-same Acknowledge c = refused-same c _ _
+pub write-same :
+    (offset value : ℕ) (c : Irqmp) → (write offset value c .refusal ≡ notRefused → ⊥) → write offset value c .controller ≡ c
+unfolding write
+write-same offset value c = refused-same c (writeRegister offset value c) 0
+
+pub acknowledge-same : (c : Irqmp) → (acknowledge c .refusal ≡ notRefused → ⊥) → acknowledge c .controller ≡ c
+unfolding acknowledge
+acknowledge-same c = refused-same c (taken (lineTaken c) c) (lineTaken c)
+
+pub read-same : (offset : ℕ) (c : Irqmp) → read offset c .controller ≡ c
+unfolding read
+read-same offset c = tested (wellFormed c) (λ w. rw w refl) (λ ill. rw ill refl)
 
 -- A well-formed controller refuses no call.
 module _ (c : Irqmp) (w : wellFormed c ≡ true) where
@@ -251,11 +255,7 @@ module _ (c : Irqmp) (w : wellFormed c ≡ true) where
 -- No lines leave the controller as it is, and lines that are set one after the other are set at once.
 pub set-none : (c : Irqmp) → setPending 0 c .controller ≡ c
 unfolding setPending
-set-none c = rw (or-zero-r (c .pending)) (same-either (wellFormed c))
-  where
-    same-either : (b : Bool) → cond b (accepted 0 c) (record { refusal = 9; value = 0; controller = c }) .controller ≡ c
-    same-either true = refl
-    same-either false = refl
+set-none c = rw (or-zero-r (c .pending)) (tested (wellFormed c) (λ w. rw w refl) (λ ill. rw ill refl))
 
 pub set-both :
     (a b : ℕ) (c : Irqmp) → setPending b (setPending a c .controller) .controller ≡ setPending (bitOr a b) c .controller

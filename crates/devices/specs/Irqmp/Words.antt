@@ -1,18 +1,17 @@
 -- How the code finds lines, in words and by their highest bit; and that they are the lines of the definitions. Assumes nothing.
-use Prim.Native.Nat.{ℕ, zero, suc, _+_, _-_, _*_, _^_, _/_, _%_, _≤_, _<_}
+use Prim.Native.Nat.{ℕ, zero, suc, _+_, _-_, _*_, _^_, _/_, _≤_, _<_}
 use mathlib.Core.Path.{_≡_, refl, sym, ap, _∙_}
 use mathlib.Core.Bool.{Bool, true, false, cond, not, _&&_, _||_, and-eq-true-iff, and-comm, and-assoc, and-true, and-false, or-true, or-false, true≢false}
-use native.Mathlib.Decide.{decLt, ℕ-discrete}
-use native.Mathlib.Nat.{div-eq-of-lt, div-eq-sub-div, div-self, pow-suc, zero-lt-suc}
+use native.Mathlib.Decide.{ℕ-discrete}
+use native.Mathlib.Nat.{div-eq-of-lt, div-eq-sub-div, pow-suc}
 use native.Mathlib.Omega.{arith}
 use lib.Bits.{bitAnd, bitOr}
 use lib.Count.{leadingZeros, leading-top}
-use lib.Dec.{eqb, ltb, leb}
+use lib.Dec.{eqb, leb}
 use lib.Pow.{pow-mono, pow-pos}
 use borrow.Author.Tests.{eqb-true, ne-eqb, lt-ltb, lt-leb, le-leb}
-use Rattle.devices.specs.Cases.{tested}
 use Rattle.devices.specs.Word.{bit}
-use Rattle.devices.specs.Word.Laws.{bit-or, bit-and}
+use Rattle.devices.specs.Word.Laws.{bit-or, bit-and, bit-line}
 use Rattle.devices.specs.Irqmp.{lines1To15, waits, highest, extendedLine, reaches, orElse, lineTaken}
 use Rattle.devices.specs.Irqmp.Laws.{highest-same, highest-cut, highest-is}
 use Rattle.devices.specs.declared.irqmp.Irqmp.{Irqmp}
@@ -20,6 +19,10 @@ use Rattle.devices.specs.declared.irqmp.Irqmp.{Irqmp}
 -- the highest line of a word
 abbrev pub highestIn : ℕ → ℕ
 highestIn word = highest 31 (λ n. bit n word)
+
+-- the word of the extended lines
+abbrev pub extendedLines : ℕ
+extendedLines = 0xFFFF0000
 
 -- the lines that wait, and those of 1 to 15 that reach the processor
 abbrev pub waiting : Irqmp → ℕ
@@ -72,15 +75,12 @@ agree-at (suc k) s t n e l =
       | no z ↦ agree-at k s t n (both .1) (omega arith)
     ]
 
--- the words of lines 1 to 15, of the extended lines and of line 12
+-- the words of lines 1 to 15 and of the extended lines
 low-bit : (n : ℕ) → n < 32 → bit n lines1To15 ≡ (leb 1 n && leb n 15)
 low-bit n l = agree-at 32 (λ i. bit i lines1To15) (λ i. leb 1 i && leb i 15) n refl l
 
-extended-bit : (n : ℕ) → n < 32 → bit n 0xFFFF0000 ≡ leb 16 n
-extended-bit n l = agree-at 32 (λ i. bit i 0xFFFF0000) (λ i. leb 16 i) n refl l
-
-line12-bit : (n : ℕ) → n < 32 → bit n (2 ^ 12) ≡ eqb n 12
-line12-bit n l = agree-at 32 (λ i. bit i (2 ^ 12)) (λ i. eqb i 12) n refl l
+extended-bit : (n : ℕ) → n < 32 → bit n extendedLines ≡ leb 16 n
+extended-bit n l = agree-at 32 (λ i. bit i extendedLines) (λ i. leb 16 i) n refl l
 
 -- The code's words have the lines of the definitions.
 module _ (c : Irqmp) where
@@ -89,12 +89,12 @@ module _ (c : Irqmp) where
       bit-and n (bitOr (c .pending) (c .force)) (c .mask) ∙
       ap (λ (b : Bool). b && bit n (c .mask)) (bit-or n (c .pending) (c .force))
 
-  pub extended-by : (w h : ℕ) → w ≡ waiting c → h ≡ highestIn (bitAnd w 0xFFFF0000) → h ≡ extendedLine c
+  pub extended-by : (w h : ℕ) → w ≡ waiting c → h ≡ highestIn (bitAnd w extendedLines) → h ≡ extendedLine c
   extended-by w h e f =
       f ∙
-      highest-same 31 (λ n. bit n (bitAnd w 0xFFFF0000)) (λ n. leb 16 n && waits c n)
+      highest-same 31 (λ n. bit n (bitAnd w extendedLines)) (λ n. leb 16 n && waits c n)
       (λ n l m.
-      bit-and n w 0xFFFF0000 ∙ rw (e, waiting-bit n, extended-bit n (omega arith)) (and-comm (waits c n) (leb 16 n)))
+      bit-and n w extendedLines ∙ rw (e, waiting-bit n, extended-bit n (omega arith)) (and-comm (waits c n) (leb 16 n)))
 
   reaching-bit : (n : ℕ) → 0 < n → n ≤ 31 → bit n (reaching c) ≡ (leb n 15 && reaches c n)
   reaching-bit n l m =
@@ -104,7 +104,7 @@ module _ (c : Irqmp) where
         | yes none ↦ rw none (own ∙ own-only (waits c n) (leb n 15) (eqb n 12))
         | no some ↦
             let both : bit n (bitOr (bitAnd (waiting c) lines1To15) (2 ^ 12)) ≡ ((waits c n && leb n 15) || eqb n 12) =
-            bit-or n (bitAnd (waiting c) lines1To15) (2 ^ 12) ∙ rw (own, line12-bit n (omega arith)) refl in
+            bit-or n (bitAnd (waiting c) lines1To15) (2 ^ 12) ∙ rw (own, bit-line n 12) refl in
             rw (ne-eqb (extendedLine c) 0 some, lt-ltb 0 (extendedLine c) (omega arith))
             (both ∙
             with-12 (waits c n) (leb n 15) (eqb n 12)

@@ -1,6 +1,6 @@
 -- Which line an acknowledge takes and what it changes, line by line, for readers. Assumes nothing.
-use Prim.Native.Nat.{ℕ, _+_, _*_, _-_, _^_, _≤_, _<_}
-use mathlib.Core.Path.{_≡_, refl, sym, ap, _∙_}
+use Prim.Native.Nat.{ℕ, _+_, _*_, _^_, _≤_, _<_}
+use mathlib.Core.Path.{_≡_, refl, sym, _∙_}
 use mathlib.Core.Logic.{_⊎_, inl, inr}
 use mathlib.Core.Bool.{Bool, true, false, cond, not, _&&_, _||_, and-eq-true-iff, and-true, or-true, true≢false}
 use native.Mathlib.Decide.{decLt, ℕ-discrete}
@@ -47,6 +47,11 @@ module _ (c : Irqmp) where
   unfolding lineTaken
   taken-second none = rw none refl
 
+  first-passes :
+      (highest 15 first ≡ 0 → ⊥) → (reaches c (highest 15 first) ≡ true) × (bit (highest 15 first) (c .level) ≡ true)
+  first-passes some =
+      both (reaches c (highest 15 first)) (bit (highest 15 first) (c .level)) (highest-passes 15 first (omega arith))
+
   -- the line taken is one that reaches the processor
   taken-reaches : 0 < lineTaken c → (reaches c (lineTaken c) ≡ true) × (lineTaken c ≤ 15)
   taken-reaches l =
@@ -56,7 +61,7 @@ module _ (c : Irqmp) where
             rw e (highest-passes 15 (reaches c) (rw e at l), highest-le 15 (reaches c))
         | no some ↦
             rw (taken-first some) (
-              both (reaches c (highest 15 first)) (bit (highest 15 first) (c .level)) (highest-passes 15 first (omega arith)) .0,
+              first-passes some .0,
               highest-le 15 first,
             )
       ]
@@ -94,8 +99,8 @@ module _ (c : Irqmp) where
         | no other ↦ rw (ne-eqb (lineTaken c) 12 other) (own-waits (lineTaken c) (λ is. absurd (other is)) reached)
       ]
 
--- The order of lines that wait: by their level, then by the number as which they reach the processor, then the extended lines by
--- their own number, and before line 12 itself.
+-- The order of lines that wait, as a number that no two of lines 1 to 31 share: by their level, then by the number as which they reach
+-- the processor, then the extended lines by their own number, and before line 12 itself.
 abbrev pub reachesAs : ℕ → ℕ
 reachesAs n = cond (leb 16 n) 12 n
 
@@ -116,7 +121,7 @@ module _ (c : Irqmp) where
       (λ high.
       let among : p ≤ highest 15 (first c) = no-higher 15 (first c) p h (rw (e, high) refl) in
       let some : highest 15 (first c) ≡ 0 → ⊥ = λ z. absurd (omega arith) in
-      let level : bit (highest 15 (first c)) (c .level) ≡ true = both (reaches c (highest 15 (first c))) (bit (highest 15 (first c)) (c .level)) (highest-passes 15 (first c) (omega arith)) .1 in
+      let level = first-passes c some .1 in
       rw (taken-first c some, high, level) (by-number p (highest 15 (first c)) 1024 among))
       (λ low.
       let among : p ≤ highest 15 (reaches c) = no-higher 15 (reaches c) p h e in
@@ -126,7 +131,7 @@ module _ (c : Irqmp) where
             (tested (bit (highest 15 (reaches c)) (c .level)) (λ t. rw t (by-level p (highest 15 (reaches c)) h among))
             (λ t. rw t (by-number p (highest 15 (reaches c)) 0 among)))
         | no some ↦
-            let level : bit (highest 15 (first c)) (c .level) ≡ true = both (reaches c (highest 15 (first c))) (bit (highest 15 (first c)) (c .level)) (highest-passes 15 (first c) (omega arith)) .1 in
+            let level = first-passes c some .1 in
             rw (taken-first c some, low, level) (inr (omega arith))
       ])
     where
@@ -192,12 +197,17 @@ module _ (c : Irqmp) where
   ordered p t own x l (inl none) f (inl is) = rw is (omega arith)
   ordered p t own x l (inr among) f (inl is) = rw is (omega (arith, among .1, f (sym is ∙ among .0)))
 
-  -- No line that waits would have gone before the one that is cleared.
+  -- If a line waits, one is taken,
+  pub one-taken : (n : ℕ) → 0 < n → n ≤ 31 → waits c n ≡ true → 0 < lineTaken c
+  one-taken n l h w =
+      let there = reached n l h w in some-taken (reachesAs n) (there .1) (there .2) (there .0)
+
+  -- and no line that waits would have gone before the one that is cleared.
   pub none-before : (n : ℕ) → 0 < n → n ≤ 31 → waits c n ≡ true → precedence c n ≤ precedence c (lineCleared c)
   none-before n l h w =
       let there = reached n l h w in
       let after = behind (reachesAs n) (there .1) (there .2) (there .0) in
-      let place = cleared (some-taken (reachesAs n) (there .1) (there .2) (there .0)) in
+      let place = cleared (one-taken n l h w) in
       rw (place .1) (ordered (reachesAs n) (lineTaken c) (ownNumber n) (place .0) (there .3) (there .4) (place .2) after)
 
 -- What an acknowledge that takes a line leaves: line n has lost its force bit if that was set, else its pending bit, and nothing else
@@ -271,7 +281,7 @@ module _ (c : Irqmp) (w : wellFormed c ≡ true) where
       (tested (eqb (lineTaken c) 12) (λ twelve. rw twelve refl)
       (λ other. rw other (chosen (λ b (d : Irqmp). d .extended ≡ c .extended) (bit (lineTaken c) (c .force)) _ _ refl refl)))
 
-  -- Where no line waits, nothing changes.
+  -- Where none is taken, nothing changes.
   pub acknowledge-none : lineTaken c ≡ 0 → acknowledge c ≡ accepted 0 c
   unfolding acknowledge
   acknowledge-none none = rw (w, none) refl

@@ -9,7 +9,8 @@ use Rattle.devices.specs.Lists.{length-of}
 use Rattle.bus.specs.Machine as bus
 use Rattle.bus.specs.Route.{replied}
 use Rattle.bus.specs.Route.Laws.{Outcome, port-there, leads-there, named-there, refused-outcome, port-outcome}
-use Rattle.bus.specs.Route.Laws.{unit-read-outcome, unit-write-outcome, controller-outcome, short-outcome, pass-outcome, reset-outcome}
+use Rattle.bus.specs.Route.Laws.{unit-read-outcome, unit-write-outcome, controller-read-outcome}
+use Rattle.bus.specs.Route.Laws.{controller-write-outcome, acknowledge-outcome, short-outcome, pass-outcome, reset-outcome}
 use Rattle.bus.specs.View.{machineOf}
 use Rattle.bus.specs.declared.machine.Machine.{Machine}
 use Rattle.bus.specs.declared.reply.Reply.{Reply}
@@ -73,24 +74,59 @@ play-spec =
           (port-outcome _ _ _ _ _ _ _ port (named-there _ _ _ (leads-there _ _ (led .route-at .ensures)) port) (inv .1)
           (called .call .ensures) (stepped .after-port .ensures)),
     ))
-    -- a read of the timer unit
+    -- a read of the timer unit, and of the controller
+    (λ c. search needs) (λ c. search needs) (λ c κs. search needs) (λ c κs. search needs) (λ c κs. search needs) (λ c. search needs)
+    (λ c.
+    let replies = c .before .before .before in
+    let called = replies .before .before in
+    let told = called .before .before in
+    let routed = told .before .before .before in (
+      search needs,
+      search (needs, length-of),
+      search needs,
+      turn (routed .before .before) _ _ _ _ (c .before .before .put3 .ensures) (replies .accepted .ensures)
+          (search (unit-read-outcome, routed .route3 .given, told .enum-told .given, called .read .ensures)),
+    ))
     (λ c. search needs) (λ c κs. search needs) (λ c κs. search needs) (λ c κs. search needs) (λ c. search needs)
-    (λ c. (search needs, search (needs, length-of), search needs, search (one-more, unit-read-outcome)))
+    (λ c.
+    let replies = c .before .before .before in
+    let called = replies .before .before in
+    let told = called .before .before in
+    let routed = told .before .before .before in (
+      search needs,
+      search (needs, length-of),
+      search needs,
+      turn (routed .before .before) _ _ _ _ (c .before .before .put4 .ensures) (replies .of-controller .ensures)
+          (search (controller-read-outcome, routed .route3 .given, told .enum-told2 .given, called .read2 .ensures)),
+    ))
     -- a write
-    (λ c. search needs) (λ c κs. search needs) (λ c κs. search needs) (λ c κs. search needs) (λ c. search needs)
-    (λ c. (search needs, search (needs, length-of), search needs, search (one-more, unit-write-outcome)))
-    -- the controller's call
+    (λ c. search needs) (λ c. search needs) (λ c κs. search needs) (λ c κs. search needs) (λ c κs. search needs) (λ c. search needs)
+    (λ c.
+    let replies = c .before .before .before in
+    let called = replies .before .before in
+    let told = called .before .before in
+    let routed = told .before .before .before in (
+      search needs,
+      search (needs, length-of),
+      search needs,
+      turn (routed .before .before) _ _ _ _ (c .before .before .put5 .ensures) (replies .accepted2 .ensures)
+          (search (unit-write-outcome, routed .route4 .given, told .enum-told3 .given, called .write .ensures)),
+    ))
     (λ c. search needs) (λ c κs. search needs) (λ c κs. search needs) (λ c κs. search needs) (λ c. search needs)
     (λ c.
     let replies = c .before .before .before in
     let called = replies .before .before .before in
-    let routed = called .before .before .before in (
+    let told = called .before .before in
+    let routed = told .before .before .before in (
       search needs,
       search (needs, length-of),
       search needs,
-      turn (routed .before .before) _ _ _ _ (c .before .before .put5 .ensures) (replies .of-controller .ensures)
-          (controller-outcome _ _ _ _ (routed .route5 .given .1) (called .call2 .ensures)),
+      turn (routed .before .before) _ _ _ _ (c .before .before .put6 .ensures) (replies .of-controller2 .ensures)
+          (search (controller-write-outcome, routed .route4 .given, told .enum-told4 .given, called .write2 .ensures)),
     ))
+    -- an acknowledge
+    (λ c. search needs) (λ c κs. search needs) (λ c κs. search needs) (λ c κs. search needs) (λ c. search needs)
+    (λ c. (search needs, search (needs, length-of), search needs, search (one-more, acknowledge-outcome)))
     -- a span of time before the next tick, and one past it
     (λ c. search needs) (λ c κs. search needs) (λ c. search needs) (λ c κs. search needs) (λ c κs. search needs) (λ c. search needs)
     (λ c.
@@ -101,8 +137,8 @@ play-spec =
       search needs,
       search (needs, length-of),
       search needs,
-      turn (routed .before .before) _ _ _ _ (c .before .before .put6 .ensures) (replies .of-span .ensures)
-          (short-outcome _ _ _ _ _ _ (routed .route6 .given .1) (asked .before-tick .ensures) (told .cycles .given .1)),
+      turn (routed .before .before) _ _ _ _ (c .before .before .put8 .ensures) (replies .of-span .ensures)
+          (short-outcome _ _ _ _ _ _ (routed .route5 .given .1) (asked .before-tick .ensures) (told .cycles .given .1)),
     ))
     (λ c. search needs) (λ c κs. search needs) (λ c κs. search needs) (λ c κs. search needs)
     (λ c κs.
@@ -123,10 +159,19 @@ play-spec =
       search needs,
       search (needs, length-of, inv),
       search (needs, inv),
-      turn led _ _ _ _ (c .before .before .put7 .ensures) (replies .of-span2 .ensures)
-          (pass-outcome _ _ _ _ _ (spans .route6 .given .1) (passed .pass .ensures) (stepped .after-pulses .ensures)),
+      turn led _ _ _ _ (c .before .before .put9 .ensures) (replies .of-span2 .ensures)
+          (pass-outcome _ _ _ _ _ (spans .route5 .given .1) (passed .pass .ensures) (stepped .after-pulses .ensures)),
     ))
     -- a reset
     (λ c. search needs) (λ c κs. search needs) (λ c κs. search needs) (λ c κs. search needs) (λ c. search needs)
-    (λ c. (search needs, search (needs, length-of), search needs, search (one-more, reset-outcome)))
+    (λ c.
+    let replies = c .before .before .before in
+    let made = replies .before .before in
+    let told = made .before in (
+      search needs,
+      search (needs, length-of, made .reset-state),
+      search needs,
+      turn (told .before .before) _ _ _ _ (c .before .before .put10 .ensures) (replies .accepted3 .ensures)
+          (search (reset-outcome, told .enum-told7 .given, made .reset-state .ensures)),
+    ))
     (λ c. search needs) (λ c. search all-played))
