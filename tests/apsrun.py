@@ -27,6 +27,30 @@ PORT_LINES = [2, 17, 18, 19, 20, 21]
 TIMER_LINES = [8, 9, 10, 11]
 ALL_LINES = 0xFFFFFFFE  # bits 1 to 31
 LARGEST = 2**64 - 1
+# The number that an access to each of a window's 64 words gets: 0 where there is a register, else 13.
+PORT_WORDS = [
+    0, 0, 0, 0,  # DATA, STATUS, CONTROL, SCALER
+    *60 * [13],  # 0x10 to 0xFC
+]
+UNIT_WORDS = [
+    0, 0, 0, 13,  # prescaler, its reload, CONFIG; 0x0C
+    0, 0, 0, 13,  # timer 1: counter, reload, control; 0x1C
+    0, 0, 0, 13,  # timer 2; 0x2C
+    0, 0, 0, 13,  # timer 3; 0x3C
+    0, 0, 0, 13,  # timer 4; 0x4C
+    *44 * [13],  # 0x50 to 0xFC
+]
+IRQMP_WORDS = [
+    0, 0, 0, 0,  # level, pending, force, clear
+    *12 * [13],  # 0x10 to 0x3C
+    0,  # mask, 0x40
+    *31 * [13],  # 0x44 to 0xBC
+    0,  # extended acknowledge, 0xC0
+    *15 * [13],  # 0xC4 to 0xFC
+]
+WINDOWS = {**dict.fromkeys(PORTS, PORT_WORDS), UNIT: UNIT_WORDS, IRQMP: IRQMP_WORDS}
+assert all(len(words) == 64 for words in WINDOWS.values())
+WITHOUT = [base + 4 * at for base, words in WINDOWS.items() for at, number in enumerate(words) if number == 13]
 
 
 def script(*records):
@@ -86,8 +110,8 @@ def altered(record, at, byte):
 
 
 def refusal(size, address):
-    """The number that an access gets, by 01's table."""
-    base = next((base for base in [*PORTS, IRQMP, UNIT] if base <= address < base + 0x100), None)
+    """The number that an access gets, by the table of 01 and 02."""
+    base = next((base for base in WINDOWS if base <= address < base + 0x100), None)
     if size not in (1, 2, 4):
         return 1
     if base is None:
@@ -96,7 +120,9 @@ def refusal(size, address):
         return 3
     if address % size:
         return 4
-    return 5 if size < 4 else 0
+    if size < 4:
+        return 5
+    return WINDOWS[base][(address - base) // 4]
 
 
 class Walk:
@@ -267,11 +293,9 @@ class Walk:
 
     def nothing(self):
         """Offsets without a register."""
-        unit, irqmp = (0x0C, 0x2C, 0x50, 0xFC), (0x10, 0x44, 0x80, 0xFC)
-        others = [*(UNIT + offset for offset in unit), *(IRQMP + offset for offset in irqmp)]
-        address = self.any.choice([*(port + 0x10 for port in PORTS), *others])
-        self.say(write(address, 0xFFFFFFFF))
-        self.say(read(address))
+        address = self.any.choice(WITHOUT)
+        self.say(write(address, self.any.getrandbits(32)), number=13)
+        self.say(read(address), number=13)
 
 
 # The table of cases: what is tried, the script, what must come of it, and how the program is run (the arguments of `run`).
@@ -821,15 +845,6 @@ example(
     (write(CLEAR, 0xFFFFFFFF), WRITTEN),
     *registers(force=0xFFFE),
 )
-WITHOUT = [IRQMP + offset for offset in range(0, 0x100, 4) if offset not in (0x00, 0x04, 0x08, 0x0C, 0x40, 0xC0)]
-example(
-    "02: the 58 offsets without a register",
-    (write(PENDING, 0x20000), WRITTEN),
-    (write(MASK, 0x20000), WRITTEN),
-    (ACKNOWLEDGE, entry(value=12)),
-    *(pair for address in WITHOUT for pair in ((write(address, 0xFFFFFFFF), WRITTEN), (read(address), entry()))),
-    *registers(mask=0x20000, extended=17),
-)
 
 
 def acknowledged(what, level, pending, force, mask, *answers):
@@ -930,6 +945,120 @@ case(
     "02: an acknowledge that is cut short",
     script(write(PENDING, 2), write(MASK, 2), ACKNOWLEDGE[:15]),
     log(entry(), entry(), entry(10)),
+)
+
+# 11. 02's accesses without a register. Each word of each window: what it reads at reset, after 0xFFFFFFFF was written to all 64, in
+# order, and the levels by then. Those that are not named read 0, or are refused.
+for name, base, at_reset, written, levels in (
+    *((f"port {p}", base, {0x04: 0x80000086, 0x08: 0x80000000}, {0x04: 0x80000086, 0x08: 0xFFFFFFFF, 0x0C: 0xFF}, 1 << p)
+      for p, base in enumerate(PORTS)),
+    ("the timer unit", UNIT,
+     {0x00: 0xFFFF, 0x04: 0xFFFF, 0x08: 0x144, 0x40: 0xFFFF, 0x44: 0xFFFF, 0x48: 0x09},
+     {0x00: 0xFFFF, 0x04: 0xFFFF, 0x08: 0x344, 0x10: 0xFFFFFFFF, 0x14: 0xFFFFFFFF, 0x18: 0x2B, 0x20: 0xFFFFFFFF, 0x24: 0xFFFFFFFF,
+      0x28: 0x2B, 0x30: 0xFFFFFFFF, 0x34: 0xFFFFFFFF, 0x38: 0x2B, 0x40: 0xFFFFFFFF, 0x44: 0xFFFFFFFF, 0x48: 0x2B}, 0),
+    ("the interrupt controller", IRQMP, {}, {0x00: 0xFFFE, 0x08: 0xFFFE, 0x40: 0xFFFFFFFE}, 0),  # clear is written behind pending
+):
+    numbers = WINDOWS[base]
+    offsets = range(0, 0x100, 4)
+    # A port's level rises as CONTROL is written, at 0x08.
+    raised = [levels if offset >= 0x08 else 0 for offset in offsets]
+    example(
+        f"02: the 64 words of {name}, read, written and read again",
+        *((read(base + offset), entry(number, value=at_reset.get(offset, 0))) for offset, number in zip(offsets, numbers)),
+        *((write(base + offset, 0xFFFFFFFF), entry(number, levels=up)) for offset, number, up in zip(offsets, numbers, raised)),
+        *((read(base + offset), entry(number, levels=levels, value=written.get(offset, 0)))
+          for offset, number in zip(offsets, numbers)),
+    )
+
+# A machine with something in every register: all ports with RE, TE, RI and three bytes, the lines 2, 17 to 20 pending, 21 taken.
+FILLED = (
+    *(pair for p, port in enumerate(PORTS) for pair in (
+        (write(port + CONTROL, RE | TE | RI), entry(levels=2**p - 1)),
+        (write(port + SCALER, 0x31 + p), entry(levels=2**p - 1)),
+        *((offer(p, byte + p), entry(levels=2 ** (p + 1) - 1)) for byte in (0x41, 0x51, 0x61)),
+    )),
+    *((write(address, value), entry(levels=0x3F)) for address, value in (
+        (PRESCALER, 5), (PRESCALER_RELOAD, 9), (CONFIG, 0x200),
+        (TIMER1, 0x11), (TIMER1 + 4, 0x12), (TIMER1 + 8, 0x09), (TIMER2, 0x21), (TIMER2 + 4, 0x22), (TIMER2 + 8, 0x2B),
+        (TIMER3, 0x31), (TIMER3 + 4, 0x32), (TIMER3 + 8, 0x03), (TIMER4, 0x41), (TIMER4 + 4, 0x42), (TIMER4 + 8, 0x20),
+        (LEVEL, 0x10), (FORCE, 0x8000), (MASK, 0x200000),
+    )),
+    (ACKNOWLEDGE, entry(levels=0x3F, value=12)),
+)
+AS_FILLED = (
+    *(pair for p, port in enumerate(PORTS) for pair in (
+        (read(port + STATUS), entry(levels=0x3F, value=0x8C000087)),  # three bytes wait
+        (read(port + CONTROL), entry(levels=0x3F, value=0x80000007)),
+        (read(port + SCALER), entry(levels=0x3F, value=0x31 + p)),
+    )),
+    *((read(address), entry(levels=0x3F, value=value)) for address, value in (
+        (PRESCALER, 5), (PRESCALER_RELOAD, 9), (CONFIG, 0x344),
+        (TIMER1, 0x11), (TIMER1 + 4, 0x12), (TIMER1 + 8, 0x09), (TIMER2, 0x21), (TIMER2 + 4, 0x22), (TIMER2 + 8, 0x2B),
+        (TIMER3, 0x31), (TIMER3 + 4, 0x32), (TIMER3 + 8, 0x03), (TIMER4, 0x41), (TIMER4 + 4, 0x42), (TIMER4 + 8, 0x20),
+        (LEVEL, 0x10), (PENDING, 0x1E0004), (FORCE, 0x8000), (CLEAR, 0), (MASK, 0x200000), (EXTENDED, 21),
+    )),
+)
+BYTES_TAKEN = tuple((read(port + DATA), entry(levels=0x3F, value=byte + p))
+                    for p, port in enumerate(PORTS) for byte in (0x41, 0x51, 0x61))
+
+
+def in_a_filled_machine(what, *pairs):
+    """Records that change nothing, each with its number."""
+    example(f"02: {what}", *FILLED, *AS_FILLED, *((record, entry(number, levels=0x3F)) for record, number in pairs), *AS_FILLED,
+            *BYTES_TAKEN)
+
+
+for value in (0, 0xFFFFFFFF, 0x00000041):
+    in_a_filled_machine(f"writes of {value:#x} where there is no register", *((write(address, value), 13) for address in WITHOUT))
+in_a_filled_machine("reads where there is no register", *((read(address), 13) for address in WITHOUT))
+# 13 comes after 1 to 5.
+for name, base in (("port 0", PORTS[0]), ("port 5", PORTS[5]), ("the timer unit", UNIT), ("the interrupt controller", IRQMP)):
+    for kind in (read, lambda address, size: write(address, 0xFFFFFFFF, size)):
+        in_a_filled_machine(
+            f"{'reads' if kind is read else 'writes'} of other sizes, and unaligned ones, in the window of {name}",
+            *((kind(base + offset, 1), 5) for offset in range(256)),
+            *((kind(base + offset, 2), 5) for offset in range(0, 256, 2)),
+            *((kind(base + offset, 2), 4) for offset in range(1, 255, 2)),
+            (kind(base + 255, 2), 3),
+            *((kind(base + offset, 4), 4) for offset in range(252) if offset % 4),
+            *((kind(base + offset, 4), 3) for offset in (253, 254, 255)),
+            *((kind(base + offset, size), 1) for offset in (0x0C, 0x10, 0x1C, 0x44, 0xFC, 0xFF) for size in (0, 3, 5, 8, 255)),
+        )
+sizes = {1: 5, 2: 5, 4: 13}
+in_a_filled_machine("accesses of each size where there is no register", *(
+    (kind, sizes.get(size, 1)) for size in range(256) for address in (PORTS[3] + 0x10, UNIT + 0x1C, UNIT + 0x50, IRQMP + 0x44)
+    for kind in (read(address, size), write(address, 0xFFFFFFFF, size))))
+# 10 comes before 13.
+in_a_filled_machine("malformed accesses where there is no register, and good ones between them", *(
+    pair for address in (PORTS[2] + 0x10, UNIT + 0x0C, UNIT + 0x4C, IRQMP + 0xFC)
+    for good in (read(address), write(address, 0xFFFFFFFF))
+    for at in BLANKS[good[0]] for pair in ((altered(good, at, 0xFF), 10), (good, 13))))
+for length in range(1, 16):
+    case(f"02: {length} bytes of a read where there is no register, behind such reads",
+         script(*3 * [read(UNIT + 0x1C)], read(UNIT + 0x1C)[:length]), log(*3 * [entry(13)], entry(10)))
+for count in (255, 256, 257, 4095, 4096, 4097):  # around the ends of pieces, and of what is written at once
+    case(f"02: {count} accesses where there is no register, a level raised before the last, and a tail",
+         script(*(count - 2) * [read(UNIT + 0x2C)], write(PORTS[5] + CONTROL, TI), write(IRQMP + 0x10, 1), RESET[:9]),
+         log(*(count - 2) * [entry(13)], entry(levels=0b100000), entry(13, levels=0b100000), entry(10, levels=0b100000)))
+example(
+    "02: registers that ignore writes, keep some bits or read 0 are registers",
+    *((write(port + STATUS, value), WRITTEN) for port in PORTS for value in (0, 0xFFFFFFFF)),
+    (write(EXTENDED, 0xFFFFFFFF), WRITTEN),
+    (read(EXTENDED), entry()),
+    (read(CLEAR), entry()),
+    (write(CONFIG, 0xFFFFFDFF), WRITTEN),
+    (read(CONFIG), entry(value=0x144)),
+)
+example(
+    "02: a timer goes on as if the access to the word behind it were not there",
+    *TWO_COUNTS,
+    (write(TIMER1 + 8, 0x0B), WRITTEN),
+    (advance(8), entry(cycles=8)),
+    (read(TIMER1 + 0x0C), entry(13)),
+    (write(TIMER1 + 0x0C, 0xFFFFFFFF), entry(13)),
+    (advance(1), entry(cycles=1, pulses=(1, 0, 0, 0))),
+    (read(TIMER1 + 0x0C), entry(13)),
+    (read(TIMER1), entry(value=2)),
 )
 
 # Running them.

@@ -48,9 +48,22 @@ FIELDS = {
        for n in range(1, TIMERS + 1)},
 }
 
-# The refusal numbers that a script can show, in a log or in the line in its place. No script makes a machine ill formed, so 9
-# is none of them.
-NUMBERS = [0, 1, 2, 3, 4, 5, 6, 7, 8, 10, BAD_MARK, BAD_VERSION]
+# The refusal numbers of log records, each with what it says. No script makes a machine ill formed, so 9 is none of them.
+NO_REGISTER = 13
+REFUSALS = {
+    1: "no such size",
+    2: "no window",
+    3: "past the window's end",
+    4: "misaligned",
+    5: "not a word",
+    6: "no such port",
+    7: "RE is 0",
+    8: "queue full",
+    10: "malformed or cut short",
+    NO_REGISTER: "no register",
+}
+# All numbers that a script can show, in a log or in the line in its place.
+NUMBERS = sorted([0, *REFUSALS, BAD_MARK, BAD_VERSION])
 
 
 def words(names):

@@ -11,8 +11,8 @@ PORT_BASES = (0x80000100, 0x80100100, 0x80100200, 0x80100300, 0x80100400, 0x8010
 CONTROLLER_BASE = 0x80000200
 TIMER_UNIT_BASE = 0x80000300
 
-# The refusals.
-BAD_SIZE, NO_WINDOW, PAST_END, MISALIGNED, NARROW = 1, 2, 3, 4, 5
+# The refusals: of an access, in the order in which they are judged, and of an offered byte.
+BAD_SIZE, NO_WINDOW, PAST_END, MISALIGNED, NARROW, NO_REGISTER = 1, 2, 3, 4, 5, 13
 NO_PORT, RECEIVER_OFF, QUEUE_FULL = 6, 7, 8
 
 # Section 5: a port's registers, and the bits of its CONTROL.
@@ -22,8 +22,9 @@ ALWAYS_SET = 1 << 31
 STATUS_FIXED = 0x80000086
 DATA_READY = 1 << 0
 
-# Section 6: the timer unit's registers, those of a timer within its 16 bytes, and the bits of a timer's control.
+# Section 6: the timer unit's registers, where timers 1 to 4 begin, the registers of each, and the bits of its control.
 UNIT_SCALER, UNIT_SRELOAD, UNIT_CONFIG = 0x00, 0x04, 0x08
+TIMER_BASES = (0x10, 0x20, 0x30, 0x40)
 TIMER_COUNTER, TIMER_RELOAD, TIMER_CONTROL = 0x0, 0x4, 0x8
 EN, RS, LD, IE, IP, CH = 1 << 0, 1 << 1, 1 << 2, 1 << 3, 1 << 4, 1 << 5
 CONFIG_FIXED = 0x144
@@ -39,6 +40,7 @@ NEVER = float("inf")  # the number of what does not happen; it compares and adds
 
 
 class SerialPort:
+    REGISTERS = {DATA, STATUS, CONTROL, SCALER}
     ROOM = 8
     STATUS_COUNT = 1 << 26  # what one byte in the queue adds to STATUS
 
@@ -56,16 +58,10 @@ class SerialPort:
     def read(self, offset):
         if offset == DATA:
             return self.read_data()
-        if offset == STATUS:
-            return self.status()
-        if offset == CONTROL:
-            return self.control
-        if offset == SCALER:
-            return self.scaler
-        return 0
+        return {STATUS: self.status(), CONTROL: self.control, SCALER: self.scaler}[offset]
 
     def write(self, offset, value):
-        """Returns the byte emitted, or None."""
+        """Returns the byte emitted, or None. A write to STATUS is ignored."""
         if offset == DATA and self.control & TE:
             return value & 0xFF
         if offset == CONTROL:
@@ -109,6 +105,7 @@ def ends_in(steps, first, period):
 class Timer:
     """How it stands after k counts depends on k alone, so nothing here goes from count to count."""
 
+    REGISTERS = {TIMER_COUNTER, TIMER_RELOAD, TIMER_CONTROL}
     SPENT = 0xFFFFFFFF  # the counter after an underflow without RS
 
     def __init__(self, before=None, counter=0, reload=0, control=0):
@@ -118,7 +115,7 @@ class Timer:
         self.control = control  # EN, RS, IE, IP and CH
 
     def read(self, register):
-        return {TIMER_COUNTER: self.counter, TIMER_RELOAD: self.reload, TIMER_CONTROL: self.control}.get(register, 0)
+        return {TIMER_COUNTER: self.counter, TIMER_RELOAD: self.reload, TIMER_CONTROL: self.control}[register]
 
     def write(self, register, value):
         if register == TIMER_COUNTER:
@@ -203,6 +200,9 @@ class Timer:
 
 
 class TimerUnit:
+    REGISTERS = {UNIT_SCALER, UNIT_SRELOAD, UNIT_CONFIG} | {
+        base + register for base in TIMER_BASES for register in Timer.REGISTERS
+    }
     Timer = Timer  # a slip puts its own here
 
     def __init__(self, controller, lines):
@@ -221,14 +221,13 @@ class TimerUnit:
 
     def read(self, offset):
         n, register = divmod(offset, 0x10)
-        if 1 <= n <= 4:
+        if n:
             return self.timers[n - 1].read(register)
-        config = CONFIG_FIXED + self.df
-        return {UNIT_SCALER: self.scaler, UNIT_SRELOAD: self.sreload, UNIT_CONFIG: config}.get(offset, 0)
+        return {UNIT_SCALER: self.scaler, UNIT_SRELOAD: self.sreload, UNIT_CONFIG: CONFIG_FIXED + self.df}[offset]
 
     def write(self, offset, value):
         n, register = divmod(offset, 0x10)
-        if 1 <= n <= 4:
+        if n:
             self.timers[n - 1].write(register, value)
         elif offset == UNIT_SCALER:
             self.scaler = value & 0xFFFF
@@ -285,6 +284,8 @@ def highest(lines):
 
 
 class InterruptController:
+    REGISTERS = {IRQMP_LEVEL, IRQMP_PENDING, IRQMP_FORCE, IRQMP_CLEAR, IRQMP_MASK, IRQMP_EXTENDED}
+
     def __init__(self):
         self.reset()
 
@@ -297,11 +298,13 @@ class InterruptController:
             IRQMP_LEVEL: self.level,
             IRQMP_PENDING: self.pending,
             IRQMP_FORCE: self.force,
+            IRQMP_CLEAR: 0,
             IRQMP_MASK: self.mask,
             IRQMP_EXTENDED: self.noted,
-        }.get(offset, 0)
+        }[offset]
 
     def write(self, offset, value):
+        """A write to the extended acknowledge is ignored."""
         if offset == IRQMP_LEVEL:
             self.level = value & PLAIN_LINES
         elif offset == IRQMP_PENDING:
@@ -375,6 +378,10 @@ class Board:
         """The device in whose window the address lies, or None."""
         return self.devices.get(address - address % WINDOW)
 
+    def has_register(self, address):
+        """Whether one begins at this address, which lies in a window."""
+        return address % WINDOW in self.device(address).REGISTERS
+
     def refusal(self, size, address):
         """The first of section 4's numbers whose condition holds, or 0."""
         if size not in (1, 2, 4):
@@ -385,7 +392,9 @@ class Board:
             return PAST_END
         if address % size:
             return MISALIGNED
-        return NARROW if size < 4 else 0
+        if size < 4:
+            return NARROW
+        return 0 if self.has_register(address) else NO_REGISTER
 
     def read(self, size, address):
         number = self.refusal(size, address)

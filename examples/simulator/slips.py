@@ -1,6 +1,7 @@
 """Boards with one slip each, to see how a failure is shown. SLIPS has them by name: the class, and what is wrong."""
 
-from board import CARRIER, CH, EN, IP, NO_WINDOW, PAST_END, PLAIN_LINES, RE, highest
+from board import CARRIER, CH, EN, IP, NARROW, NO_REGISTER, NO_WINDOW, PAST_END, PLAIN_LINES, PORT_BASES, RE, STATUS
+from board import TIMER_BASES, TIMER_UNIT_BASE, highest
 from board import Board, InterruptController, SerialPort, Timer, TimerUnit
 from bridge import Answer
 
@@ -209,6 +210,55 @@ class ResetKeepsQueues(Board):
 class LongAdvance(Board):
     def advance(self, cycles):
         return Answer(cycles=cycles, pulses=self.unit.advance(cycles - (cycles >= 1 << 63)))
+
+
+# Of the offsets without a register.
+
+LATCH = 0xC  # the word behind a timer's control: these timers have no latch
+
+
+@slip("latch-reads-0", "the word behind a timer's control reads 0 and ignores writes, in place of refused with 13")
+class LatchReads0(Board):
+    class Unit(TimerUnit):
+        REGISTERS = TimerUnit.REGISTERS | {base + LATCH for base in TIMER_BASES}
+
+        class Timer(Timer):
+            def read(self, register):
+                return 0 if register == LATCH else super().read(register)
+
+
+@slip("13-before-5", "13 is judged before 5, so that a size of 1 or 2 gets it wherever no register begins")
+class ThirteenBefore5(Board):
+    def refusal(self, size, address):
+        number = super().refusal(size, address)
+        return NO_REGISTER if number == NARROW and not self.has_register(address) else number
+
+
+@slip("status-refused", "a write to STATUS is refused with 13, in place of ignored")
+class StatusRefused(Board):
+    def write(self, size, address, value):
+        if size == 4 and address - STATUS in PORT_BASES:
+            return Answer(number=NO_REGISTER)
+        return super().write(size, address, value)
+
+
+@slip("refused-write-lands", "a write behind a timer's control is refused with 13, but is stored in its counter")
+class RefusedWriteLands(Board):
+    def write(self, size, address, value):
+        answer = super().write(size, address, value)
+        counter = address - TIMER_UNIT_BASE - LATCH
+        if answer.number == NO_REGISTER and counter in TIMER_BASES:
+            self.unit.write(counter, value)
+        return answer
+
+
+@slip("refused-read-takes", "a read behind a port's registers is refused with 13, but takes the oldest byte")
+class RefusedReadTakes(Board):
+    def read(self, size, address):
+        answer = super().read(size, address)
+        if answer.number == NO_REGISTER and self.device(address) in self.ports:
+            self.device(address).read_data()
+        return answer
 
 
 # Of the interrupt controller, and of what sets its lines.

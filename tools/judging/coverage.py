@@ -6,7 +6,7 @@ import formats
 EDGES = ["before", "first word", "last word", "across the end", "behind"]
 # How long a wait was, by the least number of cycles that is too many.
 LENGTHS = {"0 cycles": 1, "1 cycle": 2, "below 2^16": 2**16, "below 2^32": 2**32, "2^32 and more": 2**64}
-OTHER_KIND, NO_LINE = "another kind", "none"
+OTHER_KIND, NO_LINE, BEHIND_TIMERS = "another kind", "none", "behind the timers"
 # The interrupt controller's words, and the bits that each of them keeps.
 KEPT = {"level": 0x0000FFFE, "pending": 0xFFFFFFFE, "force": 0x0000FFFE, "mask": 0xFFFFFFFE}
 INTERRUPTS = [
@@ -41,7 +41,7 @@ TO_MEET = {
     "kinds of records": [*formats.RECORDS, formats.MALFORMED, formats.CUT_SHORT],
     "malformed records": [*formats.RECORDS, OTHER_KIND],
     "registers": [f"{way} {register}" for register in formats.REGISTERS for way in ("read", "write")],
-    "offsets without a register": [f"{way} {window}" for window in formats.WINDOWS for way in ("read", "write")],
+    "offsets without a register": [f"{way} {device}" for device in (*formats.DEVICES, BEHIND_TIMERS) for way in ("read", "write")],
     "refusal numbers": [str(number) for number in formats.NUMBERS],
     "windows' edges": [f"{window}: {edge}" for window in formats.WINDOWS for edge in EDGES],
     "queue depths": [f"port{p}: {depth}" for p in range(formats.PORTS) for depth in range(formats.QUEUE_DEPTH + 1)],
@@ -57,11 +57,12 @@ EXPLAINED = {
     "kinds of records": "records of each kind, refused ones too",
     "malformed records": "by their first byte: a kind's with a byte that must be 0 and is not, and those of another kind",
     "registers": "accepted accesses",
-    "offsets without a register": "accepted accesses",
+    "offsets without a register": "accesses refused with 13: of the unit at 0x0C, of a timer at the word behind its control, behind "
+                                  "the timers from the unit's 0x50 on",
     "refusal numbers": "log records with each number; 11 and 12: scripts with a bad header. 9 is for an ill-formed state, "
                        "which no script can make",
-    "windows' edges": "accesses of any size that begin in the 4 bytes before the window, accepted ones of its first and last "
-                      "word, those refused with 3, and those that begin in the 4 bytes behind it",
+    "windows' edges": "accesses of any size that begin in the 4 bytes before the window, those of its first and last word that are "
+                      "accepted or refused with 13, those refused with 3, and those that begin in the 4 bytes behind it",
     "queue depths": "how often an accepted byte, a read or a reset brought the port's receive queue to each depth",
     "lines and bytes": "records after which a port's line level is another than before, by a byte or a write of CONTROL where it "
                        "rises, and records by which it emits a byte",
@@ -142,28 +143,28 @@ class Coverage:
         address = values[1]
         if number == 0 and address in formats.NAMES:
             self.met["registers"][f"{name} {formats.NAMES[address]}"] += 1
-        elif number == 0:
-            self.met["offsets without a register"][f"{name} {window_of(address)}"] += 1
+        elif number == formats.NO_REGISTER:
+            self.met["offsets without a register"][f"{name} {formats.device_of(address) or BEHIND_TIMERS}"] += 1
         edges = self.met["windows' edges"]
-        for edge, accepted_only in AT_EDGES.get(address, ()):
-            if number == 0 or not accepted_only:
+        for edge, whole_words_only in AT_EDGES.get(address, ()):
+            if number in (0, formats.NO_REGISTER) or not whole_words_only:
                 edges[edge] += 1
         if number == 3:
             edges[f"{window_of(address)}: across the end"] += 1
 
 
 def at_edges():
-    """For each address at a window's edge, the edges that an access there meets, and whether only if it is accepted."""
+    """For each address at a window's edge, the edges that an access there meets, and whether only an aligned word does."""
     found = {}
     for window, (base, length) in formats.WINDOWS.items():
-        for edge, addresses, accepted_only in (
+        for edge, addresses, whole_words_only in (
             ("before", range(base - 4, base), False),
             ("first word", [base], True),
             ("last word", [base + length - 4], True),
             ("behind", range(base + length, base + length + 4), False),
         ):
             for address in addresses:
-                found.setdefault(address, []).append((f"{window}: {edge}", accepted_only))
+                found.setdefault(address, []).append((f"{window}: {edge}", whole_words_only))
     return found
 
 

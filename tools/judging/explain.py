@@ -139,6 +139,8 @@ def side_by_side(failure):
     for shown in (expected, got):
         note = formats.value_note(name, register, int(shown["value"], 16))
         shown["value"] += f" ({note})" if note else ""
+        refusal = formats.REFUSALS.get(int(shown["number"]))
+        shown["number"] += f" ({refusal})" if refusal else ""
         for field in [field for field in shown if field == "cycles" or field.startswith("pulses")]:
             shown[field] += f" ({int(shown[field]):#x})" if int(shown[field]) >= 2**16 else ""
     differ = [field for field in expected if expected[field] != got[field]]

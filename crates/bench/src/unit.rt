@@ -105,6 +105,6 @@ fn unmoved(unit: Gptimer) -> Elapsed {
 
 fn say(total: Elapsed) {
     number(total.cycles);
-    number(total.unit.read(Gptimer::STRIDE) as u64);
-    number(total.unit.read(4 * Gptimer::STRIDE) as u64);
+    number(total.unit.read(Gptimer::STRIDE).value as u64);
+    number(total.unit.read(4 * Gptimer::STRIDE).value as u64);
 }

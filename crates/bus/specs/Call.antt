@@ -1,6 +1,6 @@
--- Each call on a machine: paper 01, "Refusal numbers" with its order, and "The slow run"; paper 02, No. 4, adds the acknowledge.
--- The code's enum of calls says no more than the papers do, so the definitions are on that enum: "An access has a 32-bit address
--- and a size in bytes." "Script records are such calls, a malformed one a refused call".
+-- Each call on a machine: paper 01, "Refusal numbers" with its order, and "The slow run"; paper 02, No. 4, adds the acknowledge, and
+-- No. 5 a number. The code's enum of calls says no more than the papers do, so the definitions are on that enum: "An access has a
+-- 32-bit address and a size in bytes." "Script records are such calls, a malformed one a refused call".
 pub mod Laws
 use Prim.Native.Nat.{ℕ, _+_, _-_, _%_}
 use mathlib.Core.Bool.{Bool, false, true, cond, not, _||_}
@@ -8,14 +8,14 @@ use mathlib.Core.List.{List, [], _∷_}
 use lib.ListN.{length}
 use lib.Dec.{eqb, ltb, leb}
 use Rattle.devices.specs.Word.{bit}
-use Rattle.devices.specs.Refusal.{notRefused, receiverOff, queueFull, illFormed}
+use Rattle.devices.specs.Refusal.{notRefused, receiverOff, queueFull, illFormed, noRegister}
 use Rattle.devices.specs.Apbuart as uart
 use Rattle.devices.specs.Gptimer as gpt
 use Rattle.devices.specs.Irqmp as irq
 use Rattle.bus.specs.Refusal.{badSize, noWindow, pastWindow, misaligned, notAWord, noPort, badRecord}
 use Rattle.bus.specs.Board as board
-use Rattle.bus.specs.Machine.{Machine, Answer, wellFormed, resetState, portAt, withUnit}
-use Rattle.bus.specs.Machine.{refused, accepted, ofPort, ofController}
+use Rattle.bus.specs.Machine.{Machine, Answer, wellFormed, resetState, portAt}
+use Rattle.bus.specs.Machine.{refused, accepted, ofPort, ofTimerUnit, ofController}
 use Rattle.bus.specs.Time as time
 use Rattle.bus.specs.Time.{stepped, ofSpan}
 use Rattle.bus.specs.declared.board.Device.{Device}
@@ -53,6 +53,16 @@ abbrev pub runsPast : ℕ → ℕ → Found → Bool
 runsPast address size (In w) = ltb (board.end w) (address + size)
 runsPast address size Nowhere = false
 
+-- 02, No. 5: "an offset without a register". Each device has the list of its own.
+abbrev pub hasRegister : Device → ℕ → Bool
+hasRegister (device.Port n) offset = uart.hasRegister offset
+hasRegister device.TimerUnit offset = gpt.hasRegister offset
+hasRegister device.Controller offset = irq.hasRegister offset
+
+abbrev pub lacksRegister : ℕ → Found → Bool
+lacksRegister address (In w) = not (hasRegister (w .device) (address - w .base))
+lacksRegister address Nowhere = false
+
 -- What of a call the table's conditions are about. On any other call than an access, a byte and a malformed record only 9
 -- can be given.
 pub data Subject : Type 0 where
@@ -61,7 +71,8 @@ pub data Subject : Type 0 where
   unreadable : Subject
   other : Subject
 
--- "1 to 5 in that order for an access, 6 to 8 in that order for a byte"
+-- "1 to 5 in that order for an access, 6 to 8 in that order for a byte". 02, No. 5: "Word accesses to an offset without a register
+-- get number 13, a bus error, checked after 5."
 abbrev pub rules : Subject → Machine → List Rule
 rules (access address size found) m =
     badSize when not (isSize size) ∷
@@ -69,6 +80,7 @@ rules (access address size found) m =
     pastWindow when runsPast address size found ∷
     misaligned when not (eqb (address % size) 0) ∷
     notAWord when (eqb size 1 || eqb size 2) ∷
+    noRegister when lacksRegister address found ∷
     []
 rules (byteFor n) m =
     noPort when leb (m .board .ports) n ∷
@@ -101,12 +113,12 @@ subject Malformed m = unreadable
 -- A device answers an access as its own definitions say.
 abbrev pub readDevice : Machine → Device → ℕ → Answer
 readDevice m (device.Port n) offset = ofPort n (uart.read offset (portAt n m)) m
-readDevice m device.TimerUnit offset = accepted (gpt.read offset (m .unit)) m
+readDevice m device.TimerUnit offset = ofTimerUnit (gpt.read offset (m .unit)) m
 readDevice m device.Controller offset = ofController (irq.read offset (m .irqmp)) m
 
 abbrev pub writeDevice : ℕ → Machine → Device → ℕ → Answer
 writeDevice value m (device.Port n) offset = ofPort n (uart.write offset value (portAt n m)) m
-writeDevice value m device.TimerUnit offset = accepted 0 (withUnit (gpt.write offset value (m .unit)) m)
+writeDevice value m device.TimerUnit offset = ofTimerUnit (gpt.write offset value (m .unit)) m
 writeDevice value m device.Controller offset = ofController (irq.write offset value (m .irqmp)) m
 
 -- An access reaches the device whose window its address lies in, at the offset from the window's base. One that lies in no

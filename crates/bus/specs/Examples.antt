@@ -1,7 +1,7 @@
 -- Paper 01, "Bench examples": those with *, shown from the definitions in one checked table. Each line has what the
 -- definitions give and what the paper says. By paper 02, No. 3, "01's counting line, prescaler line and examples change": it
 -- gives three of the timers' new numbers, and the others follow from its rule, as the comments say. By No. 4 "the example at
--- 0x80000200" changes, and some of its own rules are shown too.
+-- 0x80000200" changes, and some of its own rules are shown too, as are some of No. 5's.
 use Prim.Native.Nat.{ℕ, _+_}
 use mathlib.Core.Path.{_≡_, refl, ap, ap₂, _∙_}
 use mathlib.Core.Bool.{true}
@@ -127,6 +127,15 @@ others =
     next (Read 0x800001FF 1) [] .refusal gives 5 ∷
     next (Read 0x80000200 4) [] .refusal gives 0 ∷
     next (Read 0x80000200 3) [] .refusal gives 1 ∷
+    -- 02, No. 5: "Word accesses to an offset without a register get number 13, a bus error, checked after 5", "+0x0C of the timer
+    -- blocks included". STATUS, which ignores writes, is a register.
+    next (Read 0x8000031C 4) [] .refusal gives 13 ∷
+    next (store 0x8000031C 1) [] .refusal gives 13 ∷
+    next (Read 0x80000110 4) [] .refusal gives 13 ∷
+    next (Read 0x80000210 4) [] .refusal gives 13 ∷
+    next (Read 0x8000031C 2) [] .refusal gives 5 ∷
+    next (Read 0x8000031E 4) [] .refusal gives 4 ∷
+    next (store 0x80000104 1) [] .refusal gives 0 ∷
     -- 02, No. 4: "Level 1 goes before level 0, then the higher number."
     next Acknowledge lines8and11 .value gives 11 ∷
     next Acknowledge (lines8and11 ++ (store 0x80000200 0x100 ∷ [])) .value gives 8 ∷

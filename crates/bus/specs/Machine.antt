@@ -10,6 +10,7 @@ use Rattle.devices.specs.Apbuart.{Port}
 use Rattle.devices.specs.Gptimer as gpt
 use Rattle.devices.specs.Irqmp as irq
 use Rattle.devices.specs.declared.gptimer.Gptimer.{Gptimer}
+use Rattle.devices.specs.declared.gptimer.Answer as unit
 use Rattle.devices.specs.declared.irqmp.Irqmp.{Irqmp}
 use Rattle.devices.specs.declared.irqmp.Answer as controller
 use Rattle.bus.specs.declared.board.Board.{Board}
@@ -102,14 +103,18 @@ noPulses = 0 ∷ 0 ∷ 0 ∷ 0 ∷ []
 abbrev pub refused : ℕ → Machine → Answer
 refused number m = answered number false 0 0 0 noPulses m
 
--- "Anything else that a record's kind does not produce is 0, here and in the call's own answer." An access of the timer
--- unit, with the value that it read or 0, or a reset:
+-- "Anything else that a record's kind does not produce is 0, here and in the call's own answer." A call that answers a value or
+-- nothing, as a reset does:
 abbrev pub accepted : ℕ → Machine → Answer
 accepted value after = answered notRefused false 0 value 0 noPulses after
 
 -- an access or a byte that port n of the machine answered:
 abbrev pub ofPort : ℕ → uart.Answer → Machine → Answer
 ofPort n a m = answered notRefused (a .emitted) (a .byte) (a .value) 0 noPulses (withPort n (a .port) m)
+
+-- an access that its timer unit answered:
+abbrev pub ofTimerUnit : unit.Answer → Machine → Answer
+ofTimerUnit a m = accepted (a .value) (withUnit (a .unit) m)
 
 -- and an access or an acknowledge that its controller answered:
 abbrev pub ofController : controller.Answer → Machine → Answer

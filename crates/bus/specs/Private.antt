@@ -1,12 +1,12 @@
 -- What functions of the crate that are not public promise; no public contract cites this.
 use Prim.Native.Nat.{ℕ, _-_, _%_}
 use mathlib.Core.Bool.{true, cond, not, _||_}
-use mathlib.Core.List.{[], _∷_}
+use mathlib.Core.List.{List, [], _∷_}
 use lib.Dec.{eqb, leb}
 use Rattle.devices.specs.Refusal.{notRefused}
 use Rattle.devices.specs.declared.apbuart.Call.the-variants as port
 use Rattle.bus.specs.Refusal.{badSize, noWindow, pastWindow, misaligned, notAWord, noPort}
-use Rattle.bus.specs.Call.{_when_, first, isSize, runsPast}
+use Rattle.bus.specs.Call.{Rule, _when_, first, isSize, runsPast}
 use Rattle.bus.specs.declared.board.Device.{Device}
 use Rattle.bus.specs.declared.board.Device.the-variants as device
 use Rattle.bus.specs.declared.board.Window.{Window}
@@ -18,13 +18,15 @@ use Rattle.bus.specs.declared.route.Route.the-variants.{Refused, Port, R
 use Rattle.bus.specs.declared.route.Core.the-variants as core
 
 -- the table's lines for 3 to 5, of an access in a window
-abbrev pub windowNumber : (address size : ℕ) → Window → ℕ
-windowNumber address size w =
-    first
-    (pastWindow when runsPast address size (In w) ∷
+abbrev pub windowRules : (address size : ℕ) → Window → List Rule
+windowRules address size w =
+    pastWindow when runsPast address size (In w) ∷
     misaligned when not (eqb (address % size) 0) ∷
     notAWord when (eqb size 1 || eqb size 2) ∷
-    [])
+    []
+
+abbrev pub windowNumber : (address size : ℕ) → Window → ℕ
+windowNumber address size w = first (windowRules address size w)
 
 -- those for 3 and 4, or a number
 abbrev pub placeNumber : (address size number : ℕ) → Window → ℕ

@@ -11,6 +11,7 @@ use Rattle.devices.specs.Apbuart as uart
 use Rattle.devices.specs.Apbuart.Call.{answerTo}
 use Rattle.devices.specs.Gptimer as gpt
 use Rattle.devices.specs.Irqmp as irq
+use Rattle.devices.specs.declared.gptimer.Answer as unit
 use Rattle.devices.specs.declared.gptimer.Span as gptimer
 use Rattle.devices.specs.declared.irqmp.Answer as irqmp
 use Rattle.devices.specs.declared.gptimer.Span.the-variants.{Cycles, ToPulse}
@@ -36,9 +37,9 @@ replied r after = answered (r .refusal) (r .emitted) (r .byte) (r .value) (r .cy
 abbrev pub portAnswer : uart.Answer → Machine → Answer
 portAnswer a after = answered (a .refusal) (a .emitted) (a .byte) (a .value) 0 noPulses after
 
--- of what the controller answered, with its own number too,
-abbrev pub controllerAnswer : irqmp.Answer → Machine → Answer
-controllerAnswer a after = answered (a .refusal) false 0 (a .value) 0 noPulses after
+-- of the number and the value that the timer unit or the controller answered, or a reset,
+abbrev pub valueAnswer : (refusal value : ℕ) → Machine → Answer
+valueAnswer refusal value after = answered refusal false 0 value 0 noPulses after
 
 -- and of a span of time.
 abbrev pub spanAnswer : (cycles : ℕ) (pulses : List ℕ) → Machine → Answer
@@ -48,17 +49,20 @@ spanAnswer cycles pulses after = answered notRefused false 0 0 cycles pulses aft
 abbrev pub portCalled : ℕ → uart.Answer → Machine → Answer
 portCalled n a m = portAnswer a (step noPulses m (withPort n (a .port) m))
 
--- The controller answers its own call and is stored; no port changes, so that no level rises.
+-- The timer unit, or the controller, answers its own call and is stored; no port changes, so that no level rises.
+abbrev pub unitCalled : unit.Answer → Machine → Answer
+unitCalled a m = valueAnswer (a .refusal) (a .value) (withUnit (a .unit) m)
+
 abbrev pub controllerCalled : irqmp.Answer → Machine → Answer
-controllerCalled a m = controllerAnswer a (withIrqmp (a .controller) m)
+controllerCalled a m = valueAnswer (a .refusal) (a .value) (withIrqmp (a .controller) m)
 
 -- The timer unit or the controller answers an access.
 abbrev pub coreRead : Core → ℕ → Machine → Answer
-coreRead TimerUnit offset m = accepted (gpt.read offset (m .unit)) m
+coreRead TimerUnit offset m = unitCalled (gpt.read offset (m .unit)) m
 coreRead Controller offset m = controllerCalled (irq.read offset (m .irqmp)) m
 
 abbrev pub coreWritten : Core → (offset value : ℕ) → Machine → Answer
-coreWritten TimerUnit offset value m = accepted 0 (withUnit (gpt.write offset value (m .unit)) m)
+coreWritten TimerUnit offset value m = unitCalled (gpt.write offset value (m .unit)) m
 coreWritten Controller offset value m = controllerCalled (irq.write offset value (m .irqmp)) m
 
 -- The machine passes a span.

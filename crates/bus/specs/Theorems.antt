@@ -2,27 +2,32 @@
 -- script records among them, stands in the scripts (Theorems.antt there). Most claims are about any answers and machines that
 -- meet the calls' contracts (`Conforms`, View.antt), so about what the code promises; the last ones are about the definitions.
 -- Assumes nothing.
-use Prim.Native.Nat.{ℕ, _<_}
+use Prim.Native.Nat.{ℕ, zero, suc, _<_}
 use mathlib.Core.Path.{_≡_, refl, sym, ap, _∙_}
-use mathlib.Core.Bool.{true, false, _&&_}
+use mathlib.Core.Bool.{Bool, true, false, cond, not, _&&_}
+use mathlib.Core.List.{List, [], _∷_}
 use native.Mathlib.Omega.{arith}
 use lib.Dec.{eqb, leb}
 use lib.ListN.{length, getD}
-use Rattle.devices.specs.Refusal.{notRefused, illFormed}
+use Rattle.devices.specs.Refusal.{notRefused, illFormed, noRegister}
+use Rattle.devices.specs.Register.Laws.{ByOffset}
 use Rattle.devices.specs.Apbuart as uart
-use Rattle.devices.specs.Apbuart.Laws.{read-accepted, write-accepted}
+use Rattle.devices.specs.Apbuart.Laws as port
 use Rattle.devices.specs.Gptimer as gpt
+use Rattle.devices.specs.Gptimer.Laws as unit′
 use Rattle.devices.specs.Gptimer.Laws.{Least, skip-least}
 use Rattle.devices.specs.Irqmp as irq
-use Rattle.devices.specs.Irqmp.Laws as controller
+use Rattle.devices.specs.Irqmp.Laws as controller′
+use Rattle.devices.specs.declared.gptimer.Answer as unit
 use Rattle.devices.specs.declared.gptimer.Elapsed.{Elapsed}
+use Rattle.devices.specs.declared.irqmp.Answer as controller
 use Rattle.bus.specs.Board.{gr712rc, holds, allApart, allThere}
 use Rattle.bus.specs.Board.Laws.{one-window}
 use Rattle.bus.specs.Machine as bus
 use Rattle.bus.specs.Machine.{wellFormed}
 use Rattle.bus.specs.Time.{advance, ofSpan}
 use Rattle.bus.specs.Time.Laws.{skip-advance, skip-unit}
-use Rattle.bus.specs.Call.{byteFor, table, refusal, windowOf, subject}
+use Rattle.bus.specs.Call.{_when_, first, byteFor, table, refusal, windowOf, subject}
 use Rattle.bus.specs.Call.Laws as laws
 use Rattle.bus.specs.Call.Laws.{noneGiven}
 use Rattle.bus.specs.View.{machineOf, answerOf, Conforms}
@@ -84,34 +89,66 @@ pub refusal-claim :
 refusal-claim {m} {c} {a} h refused =
     (h .answer ∙ laws.answer-refused c (machineOf m) (a .refusal) (number-claim h) refused, h .same refused)
 
--- Of the definitions: what the table accepts, the port accepts too, and it refuses a byte as the table does. So nothing is
--- lost where an accepted call's answer leaves out the port's own number.
+-- Of the definitions: what the table accepts, the device accepts too, and it refuses as the table does. So nothing is lost where an
+-- accepted call's answer leaves out the device's own number. For an access that is the table's line for 13:
+abbrev pub line13 : (has : Bool) → ℕ
+line13 has = first (noRegister when not has ∷ [])
+
+number-13 : {A : Type 0} (number : A → ℕ) (none : A) (has : Bool) (a : A) → number none ≡ noRegister →
+    ByOffset (λ x. number x ≡ notRefused) none has a → number a ≡ line13 has
+number-13 number none true a e h = h .there refl
+number-13 number none false a e h = ap number (h .lacking refl) ∙ e
+
 pub port-claim :
     (m : bus.Machine) (n offset value byte : ℕ) → wellFormed m ≡ true →
-    (uart.read offset (bus.portAt n m) .refusal ≡ notRefused) ×
-    (uart.write offset value (bus.portAt n m) .refusal ≡ notRefused) ×
+    (uart.read offset (bus.portAt n m) .refusal ≡ line13 (uart.hasRegister offset)) ×
+    (uart.write offset value (bus.portAt n m) .refusal ≡ line13 (uart.hasRegister offset)) ×
     (leb (m .board .ports) n ≡ false → uart.offer byte (bus.portAt n m) .refusal ≡ refusal (byteFor n) m)
 port-claim m n offset value byte w =
-    let sound = laws.well-at (m .ports) n (laws.well-ports m w) in (
-      read-accepted (bus.portAt n m) sound offset,
-      write-accepted (bus.portAt n m) sound offset value,
+    let sound = laws.well-at (m .ports) n (laws.well-ports m w) in
+    let number : uart.Answer → ℕ = λ a. a .refusal in (
+      number-13 number _ _ _ refl (port.read-by-offset (bus.portAt n m) sound offset),
+      number-13 number _ _ _ refl (port.write-by-offset (bus.portAt n m) sound offset value),
       λ there. sym (laws.offer-number n byte m w there),
     )
 
--- The controller accepts what the table accepts, and the lines that a step sets.
+pub unit-claim :
+    (m : bus.Machine) (offset value : ℕ) →
+    (gpt.read offset (m .unit) .refusal ≡ line13 (gpt.hasRegister offset)) ×
+    (gpt.write offset value (m .unit) .refusal ≡ line13 (gpt.hasRegister offset))
+unit-claim m offset value =
+    let number : unit.Answer → ℕ = λ a. a .refusal in (
+      number-13 number _ _ _ refl (unit′.read-by-offset offset (m .unit)),
+      number-13 number _ _ _ refl (unit′.write-by-offset offset value (m .unit)),
+    )
+
+-- The controller accepts an acknowledge too, and the lines that a step sets.
 pub controller-claim :
     (m : bus.Machine) (offset value lines : ℕ) → wellFormed m ≡ true →
-    (irq.read offset (m .irqmp) .refusal ≡ notRefused) ×
-    (irq.write offset value (m .irqmp) .refusal ≡ notRefused) ×
+    (irq.read offset (m .irqmp) .refusal ≡ line13 (irq.hasRegister offset)) ×
+    (irq.write offset value (m .irqmp) .refusal ≡ line13 (irq.hasRegister offset)) ×
     (irq.acknowledge (m .irqmp) .refusal ≡ notRefused) ×
     (irq.setPending lines (m .irqmp) .refusal ≡ notRefused)
 controller-claim m offset value lines w =
-    let sound = laws.well-irqmp m w in (
-      controller.read-accepted (m .irqmp) sound offset,
-      controller.write-accepted (m .irqmp) sound offset value,
-      controller.acknowledge-accepted (m .irqmp) sound,
-      controller.set-accepted (m .irqmp) sound lines,
+    let sound = laws.well-irqmp m w in
+    let number : controller.Answer → ℕ = λ a. a .refusal in (
+      number-13 number _ _ _ refl (controller′.read-by-offset (m .irqmp) sound offset),
+      number-13 number _ _ _ refl (controller′.write-by-offset (m .irqmp) sound offset value),
+      controller′.acknowledge-accepted (m .irqmp) sound,
+      controller′.set-accepted (m .irqmp) sound lines,
     )
+
+-- Of the devices' lists of registers, by one computed test: which of the first 0x100 offsets have one.
+abbrev pub offsetsWith : (has : ℕ → Bool) (from count : ℕ) → List ℕ
+offsetsWith has from zero = []
+offsetsWith has from (suc n) = cond (has from) (from ∷ offsetsWith has (suc from) n) (offsetsWith has (suc from) n)
+
+pub register-claim :
+    (offsetsWith uart.hasRegister 0 0x100 ≡ 0x00 ∷ 0x04 ∷ 0x08 ∷ 0x0C ∷ []) ×
+    (offsetsWith gpt.hasRegister 0 0x100 ≡
+    0x00 ∷ 0x04 ∷ 0x08 ∷ 0x10 ∷ 0x14 ∷ 0x18 ∷ 0x20 ∷ 0x24 ∷ 0x28 ∷ 0x30 ∷ 0x34 ∷ 0x38 ∷ 0x40 ∷ 0x44 ∷ 0x48 ∷ []) ×
+    (offsetsWith irq.hasRegister 0 0x100 ≡ 0x00 ∷ 0x04 ∷ 0x08 ∷ 0x0C ∷ 0x40 ∷ 0xC0 ∷ [])
+register-claim = (refl, refl, refl)
 
 -- Of the board's table, by one computed test: no two windows overlap, each window of a port is one of a port that the board
 -- has, and its machine at reset has each of those ports.

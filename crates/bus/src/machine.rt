@@ -217,12 +217,12 @@ impl Machine {
                 }
                 Route::Read { offset, core } => match core {
                     Core::TimerUnit => {
-                        let value = self.unit.read(offset);
-                        reply = Reply::accepted(value);
+                        let answer = self.unit.read(offset);
+                        reply = Reply::valued(answer.refusal, answer.value);
                     }
                     Core::Controller => {
                         let answer = self.irqmp.read(offset);
-                        reply = Reply::of_controller(answer);
+                        reply = Reply::valued(answer.refusal, answer.value);
                     }
                 },
                 Route::Write {
@@ -231,22 +231,23 @@ impl Machine {
                     core,
                 } => match core {
                     Core::TimerUnit => {
-                        let unit = self.unit.write(offset, value);
+                        let answer = self.unit.write(offset, value);
+                        let unit = answer.unit;
                         self.unit = unit;
-                        reply = Reply::accepted(0);
+                        reply = Reply::valued(answer.refusal, answer.value);
                     }
                     Core::Controller => {
                         let answer = self.irqmp.write(offset, value);
                         let irqmp = answer.controller;
                         self.irqmp = irqmp;
-                        reply = Reply::of_controller(answer);
+                        reply = Reply::valued(answer.refusal, answer.value);
                     }
                 },
                 Route::Acknowledge => {
                     let answer = self.irqmp.acknowledge();
                     let irqmp = answer.controller;
                     self.irqmp = irqmp;
-                    reply = Reply::of_controller(answer);
+                    reply = Reply::valued(answer.refusal, answer.value);
                 }
                 Route::Pass(span) => match self.unit.before_tick(span) {
                     BeforeTick::Yes { cycles, scaler } => {
@@ -265,7 +266,7 @@ impl Machine {
                 },
                 Route::Reset => {
                     self = Self::reset_state();
-                    reply = Reply::accepted(0);
+                    reply = Reply::valued(refusal::NOT_REFUSED, 0);
                 }
             }
         }

@@ -23,3 +23,5 @@ pub const QUEUE_FULL: u8 = refusal::QUEUE_FULL;
 pub const ILL_FORMED: u8 = refusal::ILL_FORMED;
 // A script record is malformed or cut short.
 pub const BAD_RECORD: u8 = 10;
+// A word access names an offset that has no register.
+pub const NO_REGISTER: u8 = refusal::NO_REGISTER;

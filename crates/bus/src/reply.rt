@@ -7,7 +7,6 @@ ghost use Rattle.bus.specs.Machine as bus;
 ghost use Rattle.bus.specs.Route as routes;
 use crate::refusal;
 use devices::apbuart;
-use devices::irqmp;
 
 pub struct Reply {
     pub refusal: u8,
@@ -22,22 +21,15 @@ impl Reply {
     pub fn refused(refusal: u8) -> Self
         ensures { λ r. ⌜ routes.replied r ≡ bus.refused refusal ⌝ }
     {
-        Reply {
-            refusal,
-            emitted: false,
-            byte: 0,
-            value: 0,
-            cycles: 0,
-            pulses: [0; 4],
-        }
+        Self::valued(refusal, 0)
     }
 
-    // An access of the timer unit, with the value that it read or 0, or a reset.
-    pub fn accepted(value: u32) -> Self
-        ensures { λ r. ⌜ routes.replied r ≡ bus.accepted value ⌝ }
+    // The timer unit's or the controller's own answer, with its number and the value read or the line taken; or a reset.
+    pub fn valued(refusal: u8, value: u32) -> Self
+        ensures { λ r. ⌜ routes.replied r ≡ routes.valueAnswer refusal value ⌝ }
     {
         Reply {
-            refusal: refusal::NOT_REFUSED,
+            refusal,
             emitted: false,
             byte: 0,
             value,
@@ -55,20 +47,6 @@ impl Reply {
             emitted: answer.emitted,
             byte: answer.byte,
             value: answer.value,
-            cycles: 0,
-            pulses: [0; 4],
-        }
-    }
-
-    // The controller's own answer, with its number.
-    pub fn of_controller(own: irqmp::Answer) -> Self
-        ensures { λ r. ⌜ routes.replied r ≡ routes.controllerAnswer own ⌝ }
-    {
-        Reply {
-            refusal: own.refusal,
-            emitted: false,
-            byte: 0,
-            value: own.value,
             cycles: 0,
             pulses: [0; 4],
         }

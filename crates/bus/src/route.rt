@@ -1,5 +1,5 @@
-// Where a call leads on a board. The board and the call decide it, no state: the call is refused with a number that no state
-// decides (1 to 6 and 10), or it is one device's own call, a span of time or a reset. 9 is judged apart, 7 and 8 by the port.
+// Where a call leads on a board. The board and the call decide it, no state: the call is refused with one of 1 to 6 or 10, or it is
+// one device's own call, a span of time or a reset. 9 is judged apart, 7 and 8 by the port, 13 by the device that is accessed.
 ghost use mathlib.Core.Path.{_≡_};
 ghost use mathlib.Core.Bool.{true};
 ghost use Prim.Native.Nat.{_<_};

@@ -1,6 +1,7 @@
--- The serial port (APBUART): paper 01, section "Serial port", with what "Refusal numbers" says of a device's own call.
--- One definition a rule, under the sentence that it states, in that section's order; what several rules use stands before
--- them: answers, CONTROL's bits, what is ill formed, and the line's level.
+-- The serial port (APBUART): paper 01, section "Serial port", with what "Refusal numbers" says of a device's own call, and
+-- paper 02, No. 5, which replaces what 01 says of an offset without a register. One definition a rule, under the sentence that
+-- it states, in that section's order; what several rules use stands before them: answers, CONTROL's bits, what is ill formed,
+-- and the line's level.
 pub mod View
 pub mod Call
 pub mod Laws
@@ -10,7 +11,8 @@ use mathlib.Core.List.{List, [], _∷_, _++_}
 use lib.ListN.{length}
 use lib.Dec.{eqb, ltb, leb}
 use Rattle.devices.specs.Word.{bit}
-use Rattle.devices.specs.Refusal.{notRefused, receiverOff, queueFull, illFormed}
+use Rattle.devices.specs.Register.{oneOf}
+use Rattle.devices.specs.Refusal.{notRefused, receiverOff, queueFull, illFormed, noRegister}
 
 -- "Two machines are equal when their registers, queued bytes oldest first, and line levels are equal."
 pub record Port : Type 0 where
@@ -133,16 +135,23 @@ SCALER = 0x0C
 abbrev pub writeScaler : ℕ → Port → Answer
 writeScaler value p = accepted 0 (withScaler (value % 2 ^ 8) p)
 
--- CONTROL and SCALER read what is stored ("R/W" in 000). "An aligned word offset without a register below reads 0 and
--- ignores writes"; a device's own call "answers an offset that is no register's, odd ones included, as a word offset
--- without a register is answered."
+-- The offsets with a register.
+abbrev pub registers : List ℕ
+registers = DATA ∷ STATUS ∷ CONTROL ∷ SCALER ∷ []
+
+abbrev pub hasRegister : ℕ → Bool
+hasRegister offset = oneOf registers offset
+
+-- CONTROL and SCALER read what is stored ("R/W" in 000). 02, No. 5: "Word accesses to an offset without a register get number
+-- 13"; and a device's own call, 01 says, "answers an offset that is no register's, odd ones included, as a word offset without
+-- a register is answered."
 abbrev pub readRegister : ℕ → Port → Answer
 readRegister offset p =
     cond (eqb offset DATA) (readData p)
     (cond (eqb offset STATUS) (readStatus p)
     (cond (eqb offset CONTROL) (accepted (p .control) p)
     (cond (eqb offset SCALER) (accepted (p .scaler) p)
-    (accepted 0 p))))
+    (refused noRegister p))))
 
 abbrev pub writeRegister : ℕ → ℕ → Port → Answer
 writeRegister offset value p =
@@ -150,7 +159,7 @@ writeRegister offset value p =
     (cond (eqb offset STATUS) (accepted 0 p)
     (cond (eqb offset CONTROL) (writeControl value p)
     (cond (eqb offset SCALER) (writeScaler value p)
-    (accepted 0 p))))
+    (refused noRegister p))))
 
 -- "Offered byte: joins the queue's end if RE is 1 and fewer than 8 wait." Else "7 | that port's RE is 0", "8 | that port
 -- already holds 8 bytes", "in that order".

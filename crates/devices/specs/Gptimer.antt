@@ -1,8 +1,8 @@
--- The timer unit (GPTIMER): paper 01, section "Timer unit", with what "Windows" and "Refusal numbers" say of an offset
--- without a register and "The slow run" of advances and skips, and paper 02, No. 3, which replaces what 01 says a count does
--- to the counter and to EN, and a tick to the prescaler where the reload is 0. One definition a rule, under the sentence that
--- it states; those that others use stand before them. Every field of the code's structs is a register or a bit of one, so
--- the definitions are on those structs. A call of the unit is never refused: "A case that the chosen types exclude needs no
+-- The timer unit (GPTIMER): paper 01, section "Timer unit", with what "Refusal numbers" says of a device's own call and "The slow
+-- run" of advances and skips, and paper 02: No. 3 replaces what 01 says a count does to the counter and to EN, and a tick to the
+-- prescaler where the reload is 0; No. 5, what it says of an offset without a register. One definition a rule, under the
+-- sentence that it states; those that others use stand before them. Every field of the code's structs is a register or a bit
+-- of one, so the definitions are on those structs. No call of the unit gets 9: "A case that the chosen types exclude needs no
 -- test", and the code's types exclude each ill-formed state.
 pub mod Span
 pub mod Pulses
@@ -15,9 +15,20 @@ use mathlib.Core.List.{List, [], _∷_, map}
 use lib.ListN.{getD, set}
 use lib.Dec.{eqb, ltb, leb}
 use Rattle.devices.specs.Word.{bit}
+use Rattle.devices.specs.Register.{oneOf}
+use Rattle.devices.specs.Refusal.{notRefused, noRegister}
 use Rattle.devices.specs.declared.gptimer.Timer.{Timer}
 use Rattle.devices.specs.declared.gptimer.Gptimer.{Gptimer}
+use Rattle.devices.specs.declared.gptimer.Answer.{Answer}
 use Rattle.devices.specs.declared.gptimer.Elapsed.{Elapsed}
+
+-- "A refusal returns the same machine, value 0". "Anything else that a record's kind does not produce is 0, here and in the call's
+-- own answer."
+abbrev pub refused : ℕ → Gptimer → Answer
+refused number u = record { refusal = number; value = 0; unit = u }
+
+abbrev pub accepted : ℕ → Gptimer → Answer
+accepted value u = record { refusal = notRefused; value = value; unit = u }
 
 -- A unit, and a timer, with one field changed.
 abbrev pub withScaler : ℕ → Gptimer → Gptimer
@@ -123,20 +134,6 @@ RELOAD = 0x4
 abbrev pub CONTROL : ℕ
 CONTROL = 0x8
 
-abbrev pub readTimer : ℕ → Timer → ℕ
-readTimer offset t =
-    cond (eqb offset COUNTER) (t .counter)
-    (cond (eqb offset RELOAD) (t .reload)
-    (cond (eqb offset CONTROL) (readControl t)
-    0))
-
-abbrev pub writeTimer : ℕ → ℕ → Timer → Timer
-writeTimer offset value t =
-    cond (eqb offset COUNTER) (withCounter value t)
-    (cond (eqb offset RELOAD) (withReload value t)
-    (cond (eqb offset CONTROL) (writeControl value t)
-    t))
-
 abbrev pub STRIDE : ℕ
 STRIDE = 0x10
 
@@ -156,24 +153,50 @@ timer n u = place (u .timers) (n - 1)
 abbrev pub withTimer : ℕ → Timer → Gptimer → Gptimer
 withTimer n t u = withTimers (set (u .timers) (n - 1) t) u
 
--- "An aligned word offset without a register below reads 0 and ignores writes"; a device's own call "answers an offset
--- that is no register's, odd ones included, as a word offset without a register is answered."
-unfoldable pub read : ℕ → Gptimer → ℕ
-read offset u =
-    cond (eqb offset SCALER) (u .scaler)
-    (cond (eqb offset SRELOAD) (u .sreload)
-    (cond (eqb offset CONFIG) (readConfig u)
-    (cond (isTimer (offset / STRIDE)) (readTimer (offset % STRIDE) (timer (offset / STRIDE) u))
-    0)))
+-- The offsets with a register: the unit's own, and those of each timer from the timer's.
+abbrev pub registers : List ℕ
+registers = SCALER ∷ SRELOAD ∷ CONFIG ∷ []
 
-unfoldable pub write : ℕ → ℕ → Gptimer → Gptimer
+abbrev pub timerRegisters : List ℕ
+timerRegisters = COUNTER ∷ RELOAD ∷ CONTROL ∷ []
+
+abbrev pub hasRegister : ℕ → Bool
+hasRegister offset =
+    oneOf registers offset || (isTimer (offset / STRIDE) && oneOf timerRegisters (offset % STRIDE))
+
+-- 02, No. 5: "Word accesses to an offset without a register get number 13 .. +0x0C of the timer blocks included"; and a device's own
+-- call, 01 says, "answers an offset that is no register's, odd ones included, as a word offset without a register is
+-- answered." Of timer n, by the offset from the timer's own:
+abbrev pub readTimer : ℕ → ℕ → Gptimer → Answer
+readTimer n offset u =
+    cond (eqb offset COUNTER) (accepted (timer n u .counter) u)
+    (cond (eqb offset RELOAD) (accepted (timer n u .reload) u)
+    (cond (eqb offset CONTROL) (accepted (readControl (timer n u)) u)
+    (refused noRegister u)))
+
+abbrev pub writeTimer : ℕ → ℕ → ℕ → Gptimer → Answer
+writeTimer n offset value u =
+    cond (eqb offset COUNTER) (accepted 0 (withTimer n (withCounter value (timer n u)) u))
+    (cond (eqb offset RELOAD) (accepted 0 (withTimer n (withReload value (timer n u)) u))
+    (cond (eqb offset CONTROL) (accepted 0 (withTimer n (writeControl value (timer n u)) u))
+    (refused noRegister u)))
+
+-- and of the unit:
+unfoldable pub read : ℕ → Gptimer → Answer
+read offset u =
+    cond (eqb offset SCALER) (accepted (u .scaler) u)
+    (cond (eqb offset SRELOAD) (accepted (u .sreload) u)
+    (cond (eqb offset CONFIG) (accepted (readConfig u) u)
+    (cond (isTimer (offset / STRIDE)) (readTimer (offset / STRIDE) (offset % STRIDE) u)
+    (refused noRegister u))))
+
+unfoldable pub write : ℕ → ℕ → Gptimer → Answer
 write offset value u =
-    cond (eqb offset SCALER) (writeScaler value u)
-    (cond (eqb offset SRELOAD) (writeSreload value u)
-    (cond (eqb offset CONFIG) (writeConfig value u)
-    (cond (isTimer (offset / STRIDE))
-    (withTimer (offset / STRIDE) (writeTimer (offset % STRIDE) value (timer (offset / STRIDE) u)) u)
-    u)))
+    cond (eqb offset SCALER) (accepted 0 (writeScaler value u))
+    (cond (eqb offset SRELOAD) (accepted 0 (writeSreload value u))
+    (cond (eqb offset CONFIG) (accepted 0 (writeConfig value u))
+    (cond (isTimer (offset / STRIDE)) (writeTimer (offset / STRIDE) (offset % STRIDE) value u)
+    (refused noRegister u))))
 
 -- Counting, paper 02, No. 3: "From now on a counting timer at 0 underflows;"
 unfoldable pub countUnderflows : Timer → Bool

@@ -1,17 +1,27 @@
--- The interrupt controller (IRQMP): paper 02, No. 4, with what 01 says in "Windows" of an offset without a register and in "Refusal
--- numbers" of a device's own call. One definition a rule, under the sentence that it states, in the request's order; what several
+-- The interrupt controller (IRQMP): paper 02, No. 4, with what No. 5 says of an offset without a register and 01, "Refusal
+-- numbers", of a device's own call. One definition a rule, under the sentence that it states, in the request's order; what several
 -- rules use stands before them. Every field of the code's struct is a register, so the definitions are on that struct. A register
 -- has one bit a line: bit n is line n.
 pub mod Laws
 pub mod Words
 use Prim.Native.Nat.{ℕ, zero, suc, _^_}
 use mathlib.Core.Bool.{Bool, cond, _&&_, _||_}
+use mathlib.Core.List.{List, [], _∷_}
 use lib.Dec.{eqb, ltb, leb}
 use lib.Bits.{bitAnd, bitOr}
 use Rattle.devices.specs.Word.{bit, without}
-use Rattle.devices.specs.Refusal.{notRefused, illFormed}
+use Rattle.devices.specs.Register.{oneOf}
+use Rattle.devices.specs.Refusal.{notRefused, illFormed, noRegister}
 use Rattle.devices.specs.declared.irqmp.Irqmp.{Irqmp}
 use Rattle.devices.specs.declared.irqmp.Answer.{Answer}
+
+-- "A refusal returns the same machine, value 0". "Anything else that a record's kind does not produce is 0, here and in the call's
+-- own answer."
+abbrev pub refused : ℕ → Irqmp → Answer
+refused number c = record { refusal = number; value = 0; controller = c }
+
+abbrev pub accepted : ℕ → Irqmp → Answer
+accepted value c = record { refusal = notRefused; value = value; controller = c }
 
 -- A controller with one register changed.
 abbrev pub withLevel : ℕ → Irqmp → Irqmp
@@ -48,6 +58,13 @@ MASK = 0x40
 abbrev pub EXTENDED : ℕ
 EXTENDED = 0xC0
 
+-- The offsets with a register.
+abbrev pub registers : List ℕ
+registers = LEVEL ∷ PENDING ∷ FORCE ∷ CLEAR ∷ MASK ∷ EXTENDED ∷ []
+
+abbrev pub hasRegister : ℕ → Bool
+hasRegister offset = oneOf registers offset
+
 abbrev pub resetState : Irqmp
 resetState = record { level = 0; pending = 0; force = 0; mask = 0; extended = 0 }
 
@@ -71,28 +88,28 @@ wellFormed c =
     (within lines1To31 (c .mask) && mayBeNoted (c .extended))))
 
 -- Level, pending, force and mask store the bits of a word that they keep, and read what is stored. "Ones written to clear clear
--- pending bits; it reads 0. Extended acknowledge ignores writes." 01: "An aligned word offset without a register below reads 0
--- and ignores writes"; a device's own call "answers an offset that is no register's, odd ones included, as a word offset without
--- a register is answered."
-abbrev pub readRegister : ℕ → Irqmp → ℕ
+-- pending bits; it reads 0. Extended acknowledge ignores writes." No. 5: "Word accesses to an offset without a register get number
+-- 13"; and a device's own call, 01 says, "answers an offset that is no register's, odd ones included, as a word offset without a
+-- register is answered."
+abbrev pub readRegister : ℕ → Irqmp → Answer
 readRegister offset c =
-    cond (eqb offset LEVEL) (c .level)
-    (cond (eqb offset PENDING) (c .pending)
-    (cond (eqb offset FORCE) (c .force)
-    (cond (eqb offset CLEAR) 0
-    (cond (eqb offset MASK) (c .mask)
-    (cond (eqb offset EXTENDED) (c .extended)
-    0)))))
+    cond (eqb offset LEVEL) (accepted (c .level) c)
+    (cond (eqb offset PENDING) (accepted (c .pending) c)
+    (cond (eqb offset FORCE) (accepted (c .force) c)
+    (cond (eqb offset CLEAR) (accepted 0 c)
+    (cond (eqb offset MASK) (accepted (c .mask) c)
+    (cond (eqb offset EXTENDED) (accepted (c .extended) c)
+    (refused noRegister c))))))
 
-abbrev pub writeRegister : ℕ → ℕ → Irqmp → Irqmp
+abbrev pub writeRegister : ℕ → ℕ → Irqmp → Answer
 writeRegister offset value c =
-    cond (eqb offset LEVEL) (withLevel (bitAnd value lines1To15) c)
-    (cond (eqb offset PENDING) (withPending (bitAnd value lines1To31) c)
-    (cond (eqb offset FORCE) (withForce (bitAnd value lines1To15) c)
-    (cond (eqb offset CLEAR) (withPending (without value (c .pending)) c)
-    (cond (eqb offset MASK) (withMask (bitAnd value lines1To31) c)
-    (cond (eqb offset EXTENDED) c
-    c)))))
+    cond (eqb offset LEVEL) (accepted 0 (withLevel (bitAnd value lines1To15) c))
+    (cond (eqb offset PENDING) (accepted 0 (withPending (bitAnd value lines1To31) c))
+    (cond (eqb offset FORCE) (accepted 0 (withForce (bitAnd value lines1To15) c))
+    (cond (eqb offset CLEAR) (accepted 0 (withPending (without value (c .pending)) c))
+    (cond (eqb offset MASK) (accepted 0 (withMask (bitAnd value lines1To31) c))
+    (cond (eqb offset EXTENDED) (accepted 0 c)
+    (refused noRegister c))))))
 
 -- "A pulse of timer n sets pending line 7+n; a line level rising from 0 to 1 sets the port's line": the lines of a word become
 -- pending, of those that pending keeps. Whose line is which, the board says.
@@ -137,14 +154,6 @@ take12 c = withExtended (extendedLine c) (take (orElse (extendedLine c) 12) c)
 abbrev pub taken : ℕ → Irqmp → Irqmp
 taken n c = cond (eqb n 0) c (cond (eqb n 12) (take12 c) (take n c))
 
--- "A refusal returns the same machine, value 0". "Anything else that a record's kind does not produce is 0, here and in the call's
--- own answer."
-abbrev pub refused : ℕ → Irqmp → Answer
-refused number c = record { refusal = number; value = 0; controller = c }
-
-abbrev pub accepted : ℕ → Irqmp → Answer
-accepted value c = record { refusal = notRefused; value = value; controller = c }
-
 -- "9 first"; "Every call on a machine is subject to 9, reset too."; "A device's own call judges 9 by that device alone"
 abbrev pub guarded : Irqmp → Answer → Answer
 guarded c answer = cond (wellFormed c) answer (refused illFormed c)
@@ -152,10 +161,10 @@ guarded c answer = cond (wellFormed c) answer (refused illFormed c)
 -- The five calls on a controller. "A new script kind 7 acknowledges: .. the value read is the line taken (12 for an extended one)
 -- or 0."
 unfoldable pub read : ℕ → Irqmp → Answer
-read offset c = guarded c (accepted (readRegister offset c) c)
+read offset c = guarded c (readRegister offset c)
 
 unfoldable pub write : ℕ → ℕ → Irqmp → Answer
-write offset value c = guarded c (accepted 0 (writeRegister offset value c))
+write offset value c = guarded c (writeRegister offset value c)
 
 unfoldable pub setPending : ℕ → Irqmp → Answer
 setPending lines c = guarded c (accepted 0 (withLines lines c))

@@ -16,3 +16,7 @@ queueFull = 8
 -- "9 | the machine state is ill formed"
 abbrev pub illFormed : ℕ
 illFormed = 9
+
+-- 02, No. 5: "Word accesses to an offset without a register get number 13"
+abbrev pub noRegister : ℕ
+noRegister = 13

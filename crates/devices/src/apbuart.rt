@@ -204,7 +204,7 @@ impl Apbuart {
         if offset == Self::SCALER {
             return Answer::accepted(self.scaler as u32, self);
         }
-        Answer::accepted(0, self)
+        Answer::refused(refusal::NO_REGISTER, self)
     }
 
     fn write_register(self, offset: u32, value: u32) -> Answer
@@ -222,7 +222,7 @@ impl Apbuart {
         if offset == Self::SCALER {
             return self.write_scaler(value);
         }
-        Answer::accepted(0, self)
+        Answer::refused(refusal::NO_REGISTER, self)
     }
 
     fn read_data(self) -> Answer

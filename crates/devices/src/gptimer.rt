@@ -1,7 +1,7 @@
-// The timer unit, GRLIB's GPTIMER: a prescaler and four timers, as a state by value. Its types leave no state ill formed,
-// so no call is refused. Each public call answers what `specs/Gptimer.antt` and `specs/Gptimer/Span.antt` define, whatever
-// the unit and the arguments. Time is not walked: a span past the next tick is worked out by divisions
-// (`specs/Gptimer/Direct.antt`), and a skip from the time of the next pulse.
+// The timer unit, GRLIB's GPTIMER: a prescaler and four timers, as a state by value. Its types leave no state ill formed, so
+// that it refuses only accesses of offsets without a register. Each public call answers what `specs/Gptimer.antt` and
+// `specs/Gptimer/Span.antt` define, whatever the unit and the arguments. Time is not walked: a span past the next tick is worked
+// out by divisions (`specs/Gptimer/Direct.antt`), and a skip from the time of the next pulse.
 ghost use mathlib.Core.Path.{_≡_};
 ghost use mathlib.Core.Bool.{cond, false};
 ghost use Prim.Native.Nat.{_<_, _≤_, suc, min};
@@ -9,6 +9,7 @@ ghost use Rattle.devices.specs.Word.{bit};
 ghost use Rattle.devices.specs.Gptimer as gpt;
 ghost use Rattle.devices.specs.Gptimer.Direct as direct;
 ghost use Rattle.devices.specs.Gptimer.Span as spans;
+use crate::refusal;
 
 pub struct Timer {
     pub counter: u32,
@@ -29,6 +30,16 @@ pub struct Gptimer {
     pub df: bool,
     // Timers 1 to 4.
     pub timers: [Timer; 4],
+}
+
+// What an access answers.
+pub struct Answer {
+    // The refusal number; refusal::NOT_REFUSED where the call was not refused.
+    pub refusal: u8,
+    // The value read.
+    pub value: u32,
+    // The unit after the call.
+    pub unit: Gptimer,
 }
 
 // What a span of time answers.
@@ -67,6 +78,28 @@ struct Served {
 struct Restarted {
     ends: u64,
     value: u32,
+}
+
+impl Answer {
+    fn refused(refusal: u8, unit: Gptimer) -> Self
+        ensures { λ r. ⌜ r ≡ gpt.refused refusal unit ⌝ }
+    {
+        Answer {
+            refusal,
+            value: 0,
+            unit,
+        }
+    }
+
+    fn accepted(value: u32, unit: Gptimer) -> Self
+        ensures { λ r. ⌜ r ≡ gpt.accepted value unit ⌝ }
+    {
+        Answer {
+            refusal: refusal::NOT_REFUSED,
+            value,
+            unit,
+        }
+    }
 }
 
 impl Span {
@@ -138,38 +171,6 @@ impl Timer {
             ip: Self::RESET_CONTROL_4 / Self::IP % 2 == 1,
             ch: Self::RESET_CONTROL_4 / Self::CH % 2 == 1,
         }
-    }
-
-    fn read(self, offset: u32) -> u32
-        ensures { λ r. ⌜ r ≡ gpt.readTimer offset self ⌝ }
-    {
-        if offset == Self::COUNTER {
-            return self.counter;
-        }
-        if offset == Self::RELOAD {
-            return self.reload;
-        }
-        if offset == Self::CONTROL {
-            return self.read_control();
-        }
-        0
-    }
-
-    fn write(mut self, offset: u32, value: u32) -> Self
-        ensures { λ r. ⌜ r ≡ gpt.writeTimer offset value self ⌝ }
-    {
-        if offset == Self::COUNTER {
-            self.counter = value;
-            return self;
-        }
-        if offset == Self::RELOAD {
-            self.reload = value;
-            return self;
-        }
-        if offset == Self::CONTROL {
-            return self.write_control(value);
-        }
-        self
     }
 
     fn read_control(self) -> u32
@@ -324,53 +325,88 @@ impl Gptimer {
         }
     }
 
-    pub fn read(self, offset: u32) -> u32
+    pub fn read(self, offset: u32) -> Answer
         ensures { λ r. ⌜ r ≡ gpt.read offset self ⌝ }
     {
         if offset == Self::SCALER {
-            return self.scaler as u32;
+            return Answer::accepted(self.scaler as u32, self);
         }
         if offset == Self::SRELOAD {
-            return self.sreload as u32;
+            return Answer::accepted(self.sreload as u32, self);
         }
         if offset == Self::CONFIG {
-            return Self::CONFIG_FIXED + flag(self.df, Self::DF);
+            return Answer::accepted(Self::CONFIG_FIXED + flag(self.df, Self::DF), self);
         }
         let n = (offset / Self::STRIDE) as usize;
         if n < 1 {
-            return 0;
+            return Answer::refused(refusal::NO_REGISTER, self);
         }
         if 4 < n {
-            return 0;
+            return Answer::refused(refusal::NO_REGISTER, self);
         }
-        self.timers[n - 1].read(offset % Self::STRIDE)
+        self.read_timer(n, offset % Self::STRIDE)
     }
 
-    pub fn write(mut self, offset: u32, value: u32) -> Self
+    pub fn write(mut self, offset: u32, value: u32) -> Answer
         ensures { λ r. ⌜ r ≡ gpt.write offset value self ⌝ }
     {
         if offset == Self::SCALER {
             self.scaler = (value % 0x10000) as u16;
-            return self;
+            return Answer::accepted(0, self);
         }
         if offset == Self::SRELOAD {
             self.sreload = (value % 0x10000) as u16;
-            return self;
+            return Answer::accepted(0, self);
         }
         if offset == Self::CONFIG {
             self.df = value / Self::DF % 2 == 1;
-            return self;
+            return Answer::accepted(0, self);
         }
         let n = (offset / Self::STRIDE) as usize;
         if n < 1 {
-            return self;
+            return Answer::refused(refusal::NO_REGISTER, self);
         }
         if 4 < n {
-            return self;
+            return Answer::refused(refusal::NO_REGISTER, self);
         }
-        let timer = self.timers[n - 1].write(offset % Self::STRIDE, value);
-        self.timers[n - 1] = timer;
-        self
+        self.write_timer(n, offset % Self::STRIDE, value)
+    }
+
+    // A register of timer n, by its offset from the timer's own.
+    fn read_timer(self, n: usize, offset: u32) -> Answer
+        requires { ⌜ (0 < n) × (n ≤ 4) ⌝ }
+        ensures { λ r. ⌜ r ≡ gpt.readTimer n offset self ⌝ }
+    {
+        if offset == Timer::COUNTER {
+            return Answer::accepted(self.timers[n - 1].counter, self);
+        }
+        if offset == Timer::RELOAD {
+            return Answer::accepted(self.timers[n - 1].reload, self);
+        }
+        if offset == Timer::CONTROL {
+            return Answer::accepted(self.timers[n - 1].read_control(), self);
+        }
+        Answer::refused(refusal::NO_REGISTER, self)
+    }
+
+    fn write_timer(mut self, n: usize, offset: u32, value: u32) -> Answer
+        requires { ⌜ (0 < n) × (n ≤ 4) ⌝ }
+        ensures { λ r. ⌜ r ≡ gpt.writeTimer n offset value self ⌝ }
+    {
+        if offset == Timer::COUNTER {
+            self.timers[n - 1].counter = value;
+            return Answer::accepted(0, self);
+        }
+        if offset == Timer::RELOAD {
+            self.timers[n - 1].reload = value;
+            return Answer::accepted(0, self);
+        }
+        if offset == Timer::CONTROL {
+            let timer = self.timers[n - 1].write_control(value);
+            self.timers[n - 1] = timer;
+            return Answer::accepted(0, self);
+        }
+        Answer::refused(refusal::NO_REGISTER, self)
     }
 
     // Cycles pass.

@@ -122,7 +122,7 @@ impl Irqmp {
         ensures { λ r. ⌜ r ≡ irq.read offset self ⌝ }
     {
         if self.well_formed() {
-            Answer::accepted(self.read_register(offset), self)
+            self.read_register(offset)
         } else {
             Answer::refused(refusal::ILL_FORMED, self)
         }
@@ -132,7 +132,7 @@ impl Irqmp {
         ensures { λ r. ⌜ r ≡ irq.write offset value self ⌝ }
     {
         if self.well_formed() {
-            Answer::accepted(0, self.write_register(offset, value))
+            self.write_register(offset, value)
         } else {
             Answer::refused(refusal::ILL_FORMED, self)
         }
@@ -161,57 +161,58 @@ impl Irqmp {
         }
     }
 
-    fn read_register(self, offset: u32) -> u32
+    fn read_register(self, offset: u32) -> Answer
         ensures { λ r. ⌜ r ≡ irq.readRegister offset self ⌝ }
     {
         if offset == Self::LEVEL {
-            return self.level;
+            return Answer::accepted(self.level, self);
         }
         if offset == Self::PENDING {
-            return self.pending;
+            return Answer::accepted(self.pending, self);
         }
         if offset == Self::FORCE {
-            return self.force;
+            return Answer::accepted(self.force, self);
         }
         if offset == Self::CLEAR {
-            return 0;
+            return Answer::accepted(0, self);
         }
         if offset == Self::MASK {
-            return self.mask;
+            return Answer::accepted(self.mask, self);
         }
         if offset == Self::EXTENDED {
-            return self.extended;
+            return Answer::accepted(self.extended, self);
         }
-        0
+        Answer::refused(refusal::NO_REGISTER, self)
     }
 
-    fn write_register(mut self, offset: u32, value: u32) -> Self
+    fn write_register(mut self, offset: u32, value: u32) -> Answer
         ensures { λ r. ⌜ r ≡ irq.writeRegister offset value self ⌝ }
     {
         if offset == Self::LEVEL {
             self.level = value & Self::LINES_1_TO_15;
-            return self;
+            return Answer::accepted(0, self);
         }
         if offset == Self::PENDING {
             self.pending = value & Self::LINES_1_TO_31;
-            return self;
+            return Answer::accepted(0, self);
         }
         if offset == Self::FORCE {
             self.force = value & Self::LINES_1_TO_15;
-            return self;
+            return Answer::accepted(0, self);
         }
         if offset == Self::CLEAR {
             self.pending = without(value, self.pending);
-            return self;
+            return Answer::accepted(0, self);
         }
         if offset == Self::MASK {
             self.mask = value & Self::LINES_1_TO_31;
-            return self;
+            return Answer::accepted(0, self);
         }
         if offset == Self::EXTENDED {
-            return self;
+            return Answer::accepted(0, self);
         }
-        self
+        // Nothing is stored where there is no register.
+        Answer::refused(refusal::NO_REGISTER, self)
     }
 
     fn with_lines(mut self, lines: u32) -> Self

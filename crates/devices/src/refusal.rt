@@ -8,3 +8,5 @@ pub const RECEIVER_OFF: u8 = 7;
 pub const QUEUE_FULL: u8 = 8;
 // The state is ill formed.
 pub const ILL_FORMED: u8 = 9;
+// An access names an offset that has no register.
+pub const NO_REGISTER: u8 = 13;

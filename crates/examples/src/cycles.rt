@@ -102,7 +102,7 @@ fn same_counts(a: Elapsed, b: Elapsed) -> bool {
 fn same_registers(a: Gptimer, b: Gptimer) -> bool {
     let mut offset = 0;
     while offset < 0x50 {
-        if a.read(offset) != b.read(offset) {
+        if a.read(offset).value != b.read(offset).value {
             return false;
         }
         offset += 4;

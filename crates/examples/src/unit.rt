@@ -3,13 +3,14 @@ use crate::line::Line;
 use crate::line::word;
 use crate::text::fill;
 use crate::text::name;
+use devices::gptimer::Answer;
 use devices::gptimer::Elapsed;
 use devices::gptimer::Gptimer;
 
 pub(crate) fn play(unit: Gptimer, line: Line) -> Gptimer {
     name(
         b"r  read $;\
-          w  write $ #\n;\
+          w  write $ #;\
           a  advance %;\
           s  skip %;",
         line,
@@ -20,18 +21,21 @@ pub(crate) fn play(unit: Gptimer, line: Line) -> Gptimer {
 fn call(unit: Gptimer, line: Line) -> Gptimer {
     let letter = line.letter;
     match letter {
-        b'r' => read(unit, unit.read(word(line.first))),
-        b'w' => unit.write(word(line.first), word(line.second)),
+        b'r' => answered(unit.read(word(line.first))),
+        b'w' => answered(unit.write(word(line.first), word(line.second))),
         b'a' => passed(unit.advance(line.first)),
         b's' => passed(unit.skip(line.first)),
         _ => unit,
     }
 }
 
-// Writes the value read and hands on the unit.
-fn read(unit: Gptimer, value: u32) -> Gptimer {
-    fill(b": #\n", [value as u64, 0, 0, 0]);
-    unit
+// Writes what an access answered and hands on the unit.
+fn answered(answer: Answer) -> Gptimer {
+    fill(
+        b": refusal %, value #\n",
+        [answer.refusal as u64, answer.value as u64, 0, 0],
+    );
+    answer.unit
 }
 
 // Writes what a span came to and hands on the unit.

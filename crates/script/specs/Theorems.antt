@@ -1,8 +1,8 @@
 -- What is claimed of the model, for the demands on it (README.md): begin here. The claims on single calls stand in the bus
 -- (Theorems.antt there) and are passed on. Most claims are about any answers, machines and logs that meet the contracts of the
 -- calls (`Conforms`, View.antt here and in the bus), so about what the code promises; `pieces-exist`, `input-cut-claim` and
--- `room-claim`, and in the bus `port-claim`, `board-claim` and `window-claim`, are about the definitions. The words of the
--- claims are in Steps.antt and Pieces.antt, and in Cuts.antt of the bus. Assumes nothing.
+-- `room-claim`, and in the bus `port-claim` and those after it, are about the definitions. The words of the claims are in
+-- Steps.antt and Pieces.antt, and in Cuts.antt of the bus. Assumes nothing.
 use Prim.Native.Nat.{ℕ, suc, _≤_, min}
 use mathlib.Core.Path.{_≡_, refl, sym, ap, _∙_}
 use mathlib.Core.Bool.{true, false}
@@ -39,7 +39,7 @@ use Rattle.script.specs.declared.format.Reason.{Reason}
 use Rattle.script.specs.declared.format.Verdict.the-variants.{Accepted, Refused}
 use Rattle.script.specs.declared.run.Ran.{Ran}
 pub use Rattle.bus.specs.Theorems.{skip-claim, well-claim, ill-claim, number-claim, accepted-claim, refusal-claim}
-pub use Rattle.bus.specs.Theorems.{port-claim, controller-claim, board-claim, window-claim}
+pub use Rattle.bus.specs.Theorems.{port-claim, unit-claim, controller-claim, register-claim, board-claim, window-claim}
 
 -- Demand 3, whole. "This is a single claim about the list": what is seen of its calls, script records among them, are
 -- the slow run's answers, and the last machine is the slow run's; whatever the calls, refused and malformed ones

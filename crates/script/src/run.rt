@@ -113,12 +113,22 @@ fn play(machine: Machine, script: &[u8], log: &mut [u8], count: usize) -> Machin
             }
             Route::Read { offset, core } => match core {
                 Core::TimerUnit => {
-                    let value = machine.unit.read(offset);
-                    entry::put(log, at, Reply::accepted(value), machine);
+                    let answer = machine.unit.read(offset);
+                    entry::put(
+                        log,
+                        at,
+                        Reply::valued(answer.refusal, answer.value),
+                        machine,
+                    );
                 }
                 Core::Controller => {
                     let answer = machine.irqmp.read(offset);
-                    entry::put(log, at, Reply::of_controller(answer), machine);
+                    entry::put(
+                        log,
+                        at,
+                        Reply::valued(answer.refusal, answer.value),
+                        machine,
+                    );
                 }
             },
             Route::Write {
@@ -127,22 +137,38 @@ fn play(machine: Machine, script: &[u8], log: &mut [u8], count: usize) -> Machin
                 core,
             } => match core {
                 Core::TimerUnit => {
-                    let unit = machine.unit.write(offset, value);
+                    let answer = machine.unit.write(offset, value);
+                    let unit = answer.unit;
                     machine.unit = unit;
-                    entry::put(log, at, Reply::accepted(0), machine);
+                    entry::put(
+                        log,
+                        at,
+                        Reply::valued(answer.refusal, answer.value),
+                        machine,
+                    );
                 }
                 Core::Controller => {
                     let answer = machine.irqmp.write(offset, value);
                     let irqmp = answer.controller;
                     machine.irqmp = irqmp;
-                    entry::put(log, at, Reply::of_controller(answer), machine);
+                    entry::put(
+                        log,
+                        at,
+                        Reply::valued(answer.refusal, answer.value),
+                        machine,
+                    );
                 }
             },
             Route::Acknowledge => {
                 let answer = machine.irqmp.acknowledge();
                 let irqmp = answer.controller;
                 machine.irqmp = irqmp;
-                entry::put(log, at, Reply::of_controller(answer), machine);
+                entry::put(
+                    log,
+                    at,
+                    Reply::valued(answer.refusal, answer.value),
+                    machine,
+                );
             }
             Route::Pass(span) => match machine.unit.before_tick(span) {
                 BeforeTick::Yes { cycles, scaler } => {
@@ -161,7 +187,7 @@ fn play(machine: Machine, script: &[u8], log: &mut [u8], count: usize) -> Machin
             },
             Route::Reset => {
                 machine = Machine::reset_state();
-                entry::put(log, at, Reply::accepted(0), machine);
+                entry::put(log, at, Reply::valued(refusal::NOT_REFUSED, 0), machine);
             }
         }
     }

@@ -38,7 +38,8 @@ fn device_at(base: u32) -> Option<Device> {
     }
 }
 
-/// Finds the device and word offset of an access. The numbers 1 to 5 are judged "in that order".
+/// Finds the device and word offset of an access. The numbers 1 to 5 are judged "in that order"; the
+/// device itself knows its registers and judges 13, which is "checked after 5" (02, No. 5).
 fn decode(address: u32, size: u8) -> Result<(Device, u32), Refusal> {
     let offset = address % WINDOW_LENGTH;
     let size = u32::from(size);
@@ -70,26 +71,20 @@ impl Board {
 
     /// A bus read; returns the value.
     pub fn read(&mut self, address: u32, size: u8) -> Result<u32, Refusal> {
-        Ok(match decode(address, size)? {
+        match decode(address, size)? {
             (Device::Uart(port), offset) => self.with_uart(port, |uart| uart.read(offset)),
             (Device::TimerUnit, offset) => self.timer_unit.read(offset),
             (Device::Irqmp, offset) => self.irqmp.read(offset),
-        })
+        }
     }
 
     /// A bus write; returns the byte that a port emitted, if any.
     pub fn write(&mut self, address: u32, size: u8, value: u32) -> Result<Option<u8>, Refusal> {
-        Ok(match decode(address, size)? {
+        match decode(address, size)? {
             (Device::Uart(port), offset) => self.with_uart(port, |uart| uart.write(offset, value)),
-            (Device::TimerUnit, offset) => {
-                self.timer_unit.write(offset, value);
-                None
-            }
-            (Device::Irqmp, offset) => {
-                self.irqmp.write(offset, value);
-                None
-            }
-        })
+            (Device::TimerUnit, offset) => self.timer_unit.write(offset, value).map(|()| None),
+            (Device::Irqmp, offset) => self.irqmp.write(offset, value).map(|()| None),
+        }
     }
 
     /// Offers a byte to a port's receiver.

@@ -17,7 +17,7 @@ pub enum Family {
     Short,
     /// Serial ports.
     Serial,
-    /// Accesses at and around the windows' edges, of all sizes.
+    /// Accesses at and around the windows' edges, of all sizes, and where a window has no register.
     Windows,
     /// All of the above.
     Mixed,
@@ -86,7 +86,10 @@ impl Family {
                 "the serial ports: full and drained queues, the receiver off; now and then an advance or a \
                  skip, of any length"
             }
-            Family::Windows => "accesses of all sizes at and around the windows' edges; no time passes",
+            Family::Windows => {
+                "accesses of all sizes at and around the windows' edges, and where a window has no register; \
+                 no time passes"
+            }
             Family::Mixed => "timers, serial, interrupts and windows, mixed",
             Family::Damaged => "mixed with malformed records between, or each kind with each blank set",
             Family::Headers => "good and bad headers, some cut short, with a few records of mixed or none",
@@ -157,7 +160,25 @@ pub fn batch(seed: u64, records: usize) -> Vec<u8> {
 const UNIT: u32 = 0x8000_0300;
 const CONTROLLER: u32 = 0x8000_0200;
 const PORTS: [u32; 6] = [0x8000_0100, 0x8010_0100, 0x8010_0200, 0x8010_0300, 0x8010_0400, 0x8010_0500];
+const WINDOWS: [u32; 8] = [PORTS[0], CONTROLLER, UNIT, PORTS[1], PORTS[2], PORTS[3], PORTS[4], PORTS[5]];
 const WINDOW: u32 = 0x100;
+
+/// The offsets in a window that have a register, by what stands there.
+const PORT_REGISTERS: [u32; 4] = [uart::DATA, uart::STATUS, uart::CONTROL, uart::SCALER];
+const CONTROLLER_REGISTERS: [u32; 6] =
+    [irqmp::LEVEL, irqmp::PENDING, irqmp::FORCE, irqmp::CLEAR, irqmp::MASK, irqmp::EXTENDED_ACKNOWLEDGE];
+const UNIT_REGISTERS: [u32; 15] =
+    [0x00, 0x04, 0x08, 0x10, 0x14, 0x18, 0x20, 0x24, 0x28, 0x30, 0x34, 0x38, 0x40, 0x44, 0x48];
+
+/// Whether an address in the window at a base is a register's.
+fn is_register(base: u32, address: u32) -> bool {
+    let offset = address - base;
+    match base {
+        UNIT => UNIT_REGISTERS.contains(&offset),
+        CONTROLLER => CONTROLLER_REGISTERS.contains(&offset),
+        _ => PORT_REGISTERS.contains(&offset),
+    }
+}
 
 /// The lines of ports and timers, bit n for line n.
 const BOARD_LINES: u32 = 1 << 2 | 0xF << 8 | 0x1F << 17;
@@ -232,7 +253,11 @@ impl Generator {
         match self.family {
             Family::Timers | Family::Short => self.repeat(count, Generator::timer_step),
             Family::Serial => self.repeat(count, Generator::serial_step),
-            Family::Windows => self.repeat(count, Generator::window_step),
+            Family::Windows => {
+                self.repeat(3 * count, Generator::window_step);
+                // By turns, so that a run of some hundred seeds has every window for sure.
+                self.sweep_window(WINDOWS[(self.round % WINDOWS.len() as u64) as usize]);
+            }
             Family::Mixed => self.repeat(count, Generator::mixed_step),
             Family::Damaged if self.random.one_in(4) => self.every_blank(),
             Family::Damaged => {
@@ -371,7 +396,7 @@ impl Generator {
             7 | 8 => self.aim_at_pulses(),
             9 | 10 => self.enable_again(),
             _ => {
-                if self.random.one_in(8) {
+                if self.random.one_in(6) {
                     self.set_up_many_pulses();
                 }
                 for _ in 0..=self.random.below(4) {
@@ -382,6 +407,15 @@ impl Generator {
                 } else if self.random.one_in(2) {
                     self.see_lines();
                 }
+            }
+        }
+        // It is refused, and leaves alone what stands in the same block.
+        if self.random.one_in(3) {
+            let address = self.word_without_register(UNIT);
+            self.access(4, address);
+            let block = address - address % timer::TIMER_STRIDE;
+            for register in (block..address).step_by(4).filter(|&register| is_register(UNIT, register)) {
+                self.read(register);
             }
         }
     }
@@ -619,10 +653,12 @@ impl Generator {
             }
             3 => self.write_prescaler(),
             4 => {
-                let (offset, value) =
-                    (self.random.pick(&[0x0C, 0x1C, 0x2C, 0x3C, 0x4C, 0x50, 0xFC]), self.random.word());
-                self.write(UNIT + offset, value);
-                self.read(UNIT + offset);
+                let (address, value) = (self.word_without_register(UNIT), self.random.word());
+                self.write(address, value);
+                self.read(address);
+                if self.random.one_in(2) {
+                    self.read_timers();
+                }
             }
             _ => {
                 let value = self.control_value();
@@ -705,13 +741,8 @@ impl Generator {
     }
 
     fn read_timers(&mut self) {
-        for offset in [timer::SCALER, timer::SCALER_RELOAD, timer::CONFIG] {
-            self.read(UNIT + offset);
-        }
-        for timer in 1..=timer::TIMERS as u32 {
-            for register in [timer::COUNTER, timer::RELOAD, timer::CONTROL] {
-                self.read(UNIT + timer * timer::TIMER_STRIDE + register);
-            }
+        for register in UNIT_REGISTERS {
+            self.read(UNIT + register);
         }
     }
 
@@ -918,10 +949,13 @@ impl Generator {
                 self.read(base + uart::SCALER);
             }
             11 => {
-                let offset = self.random.pick(&[0x04, 0x10, 0x14, 0x20, 0xFC]);
+                // Ignored by STATUS, refused elsewhere.
+                let nowhere = self.word_without_register(base);
+                let address = self.random.pick(&[base + uart::STATUS, nowhere, nowhere]);
                 let value = self.random.word();
-                self.write(base + offset, value);
-                self.read(base + offset);
+                self.write(address, value);
+                self.read(address);
+                self.read_port(base);
             }
             12 => {
                 let port = self.random.pick(&[0, 1, 2, 3, 4, 5, 6, 7, 8, 0x80, 0xFF]);
@@ -974,7 +1008,10 @@ impl Generator {
             0 => self.write(base + uart::DATA, 0x55),
             1 => self.write(base + uart::STATUS, 0xFFFF_FFFF),
             2 => self.write(base + uart::SCALER, 1),
-            3 => self.write(base + 0x10, 0xFFFF_FFFF),
+            3 => {
+                let address = self.word_without_register(base);
+                self.access(4, address);
+            }
             4 => self.pass(),
             _ => self.push(Call::Offer { port: 6, byte: 1 }),
         }
@@ -1029,7 +1066,7 @@ impl Generator {
             16 => self.see_lines(),
             17 => self.nothing_waits(),
             18 => self.reset_in_use(),
-            19 => self.sweep_controller(),
+            19 => self.access_without_register(CONTROLLER),
             _ => {
                 let address = self.address_near(CONTROLLER);
                 self.access_of_any_size(address);
@@ -1039,14 +1076,7 @@ impl Generator {
     }
 
     fn read_controller(&mut self) {
-        for register in [
-            irqmp::LEVEL,
-            irqmp::PENDING,
-            irqmp::FORCE,
-            irqmp::CLEAR,
-            irqmp::MASK,
-            irqmp::EXTENDED_ACKNOWLEDGE,
-        ] {
+        for register in CONTROLLER_REGISTERS {
             self.read(CONTROLLER + register);
         }
     }
@@ -1185,42 +1215,25 @@ impl Generator {
 
     /// A word to a register, or to an offset without one.
     fn write_controller_register(&mut self) {
-        let nowhere = 4 * self.random.below(64) as u32;
-        let register = self.random.pick(&[
-            irqmp::LEVEL,
-            irqmp::PENDING,
-            irqmp::FORCE,
-            irqmp::FORCE,
-            irqmp::CLEAR,
-            irqmp::CLEAR,
-            irqmp::MASK,
-            irqmp::EXTENDED_ACKNOWLEDGE,
-            irqmp::EXTENDED_ACKNOWLEDGE,
+        let nowhere = self.word_without_register(CONTROLLER);
+        let address = self.random.pick(&[
+            CONTROLLER + irqmp::LEVEL,
+            CONTROLLER + irqmp::PENDING,
+            CONTROLLER + irqmp::FORCE,
+            CONTROLLER + irqmp::FORCE,
+            CONTROLLER + irqmp::CLEAR,
+            CONTROLLER + irqmp::CLEAR,
+            CONTROLLER + irqmp::MASK,
+            CONTROLLER + irqmp::EXTENDED_ACKNOWLEDGE,
+            CONTROLLER + irqmp::EXTENDED_ACKNOWLEDGE,
             nowhere,
         ]);
         let lines = self.lines();
         let number = self.random.below(32) as u32;
         let value = self.random.pick(&[lines, lines, number]);
-        self.write(CONTROLLER + register, value);
+        self.write(address, value);
         if self.random.one_in(2) {
-            self.read(CONTROLLER + register);
-        }
-        self.read_controller();
-    }
-
-    /// Every word of the window, with each register set. Most writes to the others are to be ignored.
-    fn sweep_controller(&mut self) {
-        let (level, force) = (self.lines(), self.lines());
-        let pending = self.lines() | 3 << (16 + self.random.below(15));
-        self.set_up_controller(level | LINE_12, pending, force | LINE_12, u32::MAX);
-        self.push(Call::Acknowledge);
-        for offset in (0..WINDOW).step_by(4) {
-            let stored = [irqmp::LEVEL, irqmp::PENDING, irqmp::FORCE, irqmp::CLEAR, irqmp::MASK];
-            if !stored.contains(&offset) && self.random.one_in(2) {
-                let value = self.lines();
-                self.write(CONTROLLER + offset, value);
-            }
-            self.read(CONTROLLER + offset);
+            self.read(address);
         }
         self.read_controller();
     }
@@ -1272,8 +1285,10 @@ impl Generator {
             }
             // It must raise nothing.
             if self.random.one_in(4) {
-                let register = self.random.pick(&[uart::DATA, uart::DATA, uart::STATUS, uart::SCALER]);
-                self.write(base + register, 0x55);
+                let nowhere = self.word_without_register(base);
+                let (data, status, scaler) = (base + uart::DATA, base + uart::STATUS, base + uart::SCALER);
+                let address = self.random.pick(&[data, data, status, scaler, nowhere]);
+                self.write(address, 0x5A);
                 self.read(CONTROLLER + irqmp::PENDING);
             }
         }
@@ -1440,7 +1455,7 @@ impl Generator {
     fn stream_aside(&mut self, stream: &mut Stream) {
         let base = PORTS[stream.port];
         let run = 1 + self.random.below(4);
-        match self.random.below(8) {
+        match self.random.below(9) {
             0..=2 => self.read(base + uart::STATUS),
             3 => self.read(base + uart::CONTROL),
             4 | 5 => {
@@ -1450,6 +1465,10 @@ impl Generator {
                 }
             }
             6 => self.write_stream_control(stream),
+            7 => {
+                let address = self.word_without_register(base);
+                self.access(4, address);
+            }
             _ => {
                 self.write(base + uart::CONTROL, stream.control & !uart::RE);
                 for _ in 0..run {
@@ -1472,8 +1491,130 @@ impl Generator {
             1 => CONTROLLER,
             _ => self.random.pick(&PORTS),
         };
+        if self.random.one_in(8) {
+            return self.access_without_register(base);
+        }
         let address = self.address_near(base);
         self.access_of_any_size(address);
+    }
+
+    /// Accesses to a device in use where it has no register, among them short and unaligned ones and some
+    /// that run past the window; and to registers that ignore a write. Then the device is looked at.
+    fn access_without_register(&mut self, base: u32) {
+        if !self.random.one_in(3) {
+            self.put_in_use(base);
+        }
+        // The level of a port stays when its bytes are taken.
+        if PORTS.contains(&base) && self.random.one_in(4) {
+            for _ in 0..QUEUE {
+                self.read(base + uart::DATA);
+            }
+        }
+        for _ in 0..1 + self.random.below(8) {
+            let word = self.word_without_register(base);
+            match self.random.below(12) {
+                0..=2 => {
+                    let size = self.random.pick(&[1, 1, 2, 2, 4]);
+                    let more = self.random.below(4) as u32;
+                    self.access(size, word + more);
+                }
+                3 => {
+                    let (size, fit) = self.random.pick(&[(2, 1), (2, 1), (4, 1), (4, 2), (4, 3)]);
+                    self.access(size, base + WINDOW - fit);
+                }
+                4 => {
+                    let register = match base {
+                        UNIT => timer::CONFIG,
+                        CONTROLLER => irqmp::EXTENDED_ACKNOWLEDGE,
+                        _ => uart::STATUS,
+                    };
+                    self.access(4, base + register);
+                }
+                _ => self.access(4, word),
+            }
+        }
+        self.look_at(base);
+    }
+
+    /// Every word of a window that is no register's, written and read with the device in use; then short and
+    /// unaligned accesses to them, and those that run past the window.
+    fn sweep_window(&mut self, base: u32) {
+        self.put_in_use(base);
+        let words: Vec<u32> =
+            (base..base + WINDOW).step_by(4).filter(|&address| !is_register(base, address)).collect();
+        // Each bit both ways, so that one that is stored somewhere shows.
+        let value = self.random.word();
+        for value in [value, !value] {
+            for &address in &words {
+                self.write(address, value);
+            }
+            self.look_at(base);
+        }
+        for &address in &words {
+            self.read(address);
+            if self.random.one_in(2) {
+                let (size, more) = (self.random.pick(&[1, 2, 2, 4]), self.random.below(4) as u32);
+                self.access(size, address + more);
+            }
+        }
+        for (size, fit) in [(2, 1), (4, 1), (4, 2), (4, 3)] {
+            let address = base + WINDOW - fit;
+            self.push(Call::Write { size, address, value });
+            self.push(Call::Read { size, address });
+        }
+        self.look_at(base);
+    }
+
+    /// The address of a word of a window that is no register's, mostly one near the registers.
+    fn word_without_register(&mut self, base: u32) -> u32 {
+        loop {
+            let words = self.random.pick(&[20, 24, 64]);
+            let address = base + 4 * self.random.below(words) as u32;
+            if !is_register(base, address) {
+                return address;
+            }
+        }
+    }
+
+    /// Lets a device have something to lose, and mostly a port's level at 1.
+    fn put_in_use(&mut self, base: u32) {
+        if !PORTS.contains(&base) {
+            let port = self.random.pick(&PORTS);
+            let control = self.random.pick(&[0, uart::TI, uart::TI]);
+            self.write(port + uart::CONTROL, control);
+        }
+        match base {
+            UNIT => {
+                self.set_up_timers();
+                let value = self.random.word();
+                self.write(UNIT + timer::CONFIG, value);
+            }
+            CONTROLLER => {
+                let [level, pending, force] = [(); 3].map(|()| self.lines());
+                self.set_up_controller(level, pending | EXTENDED, force | LINE_12, u32::MAX);
+                self.push(Call::Acknowledge);
+            }
+            _ => {
+                let port = PORTS.iter().position(|&other| other == base).expect("it is a port's");
+                let others = self.random.pick(&[0, uart::RI, uart::TI]);
+                self.write(base + uart::CONTROL, uart::RE | uart::TE | uart::RI | others);
+                let value = self.random.word();
+                self.write(base + uart::SCALER, value);
+                for _ in 0..1 + self.random.below(QUEUE) {
+                    let byte = self.random.byte();
+                    self.push(Call::Offer { port: port as u8, byte });
+                }
+            }
+        }
+    }
+
+    /// Reads what the registers of a device hold.
+    fn look_at(&mut self, base: u32) {
+        match base {
+            UNIT => self.read_timers(),
+            CONTROLLER => self.read_controller(),
+            _ => self.read_port(base),
+        }
     }
 
     fn access_of_any_size(&mut self, address: u32) {
@@ -1482,6 +1623,10 @@ impl Generator {
             2 => self.random.pick(&[0, 1, 2, 3, 4, 5, 8, 255]),
             _ => self.random.byte(),
         };
+        self.access(size, address);
+    }
+
+    fn access(&mut self, size: u8, address: u32) {
         if self.random.one_in(2) {
             self.push(Call::Read { size, address });
         } else {

@@ -1,6 +1,8 @@
 //! IRQMP interrupt controller for one processor, as 02, No. 4 adds it; quotations in this module are its
 //! sentences. What raises its lines is the board's matter.
 
+use crate::refusal::Refusal;
+
 pub const LEVEL: u32 = 0x00;
 pub const PENDING: u32 = 0x04;
 pub const FORCE: u32 = 0x08;
@@ -15,6 +17,30 @@ const LINES_TO_31: u32 = 0xFFFF_FFFE;
 /// "Lines 16 to 31 reach the processor as line 12"
 const EXTENDED_LINES: u32 = 0xFFFF_0000;
 const EXTENDED_AS: u32 = 12;
+
+/// The controller's registers. No other offset has one.
+enum Register {
+    Level,
+    Pending,
+    Force,
+    Clear,
+    Mask,
+    ExtendedAcknowledge,
+}
+
+impl Register {
+    fn at(offset: u32) -> Result<Register, Refusal> {
+        match offset {
+            LEVEL => Ok(Register::Level),
+            PENDING => Ok(Register::Pending),
+            FORCE => Ok(Register::Force),
+            CLEAR => Ok(Register::Clear),
+            MASK => Ok(Register::Mask),
+            EXTENDED_ACKNOWLEDGE => Ok(Register::ExtendedAcknowledge),
+            _ => Err(Refusal::NoRegister),
+        }
+    }
+}
 
 #[derive(Clone, Debug, PartialEq, Eq)]
 pub struct Irqmp {
@@ -40,30 +66,32 @@ impl Irqmp {
     /// "all 0 at reset"
     pub const RESET: Irqmp = Irqmp { level: 0, pending: 0, force: 0, mask: 0, extended_acknowledge: 0 };
 
-    /// Reads the word at an offset; one without a register "reads 0" (01), and so does clear.
-    pub fn read(&self, offset: u32) -> u32 {
-        match offset {
-            LEVEL => self.level,
-            PENDING => self.pending,
-            FORCE => self.force,
-            MASK => self.mask,
-            EXTENDED_ACKNOWLEDGE => self.extended_acknowledge,
-            _ => 0,
-        }
+    /// Reads the register at an offset.
+    pub fn read(&self, offset: u32) -> Result<u32, Refusal> {
+        Ok(match Register::at(offset)? {
+            Register::Level => self.level,
+            Register::Pending => self.pending,
+            Register::Force => self.force,
+            // "it reads 0"
+            Register::Clear => 0,
+            Register::Mask => self.mask,
+            Register::ExtendedAcknowledge => self.extended_acknowledge,
+        })
     }
 
-    /// Writes the word at an offset; one without a register "ignores writes" (01), and so does extended
-    /// acknowledge.
-    pub fn write(&mut self, offset: u32, value: u32) {
-        match offset {
-            LEVEL => self.level = value & LINES_TO_15,
-            PENDING => self.pending = value & LINES_TO_31,
-            FORCE => self.force = value & LINES_TO_15,
+    /// Writes the register at an offset.
+    pub fn write(&mut self, offset: u32, value: u32) -> Result<(), Refusal> {
+        match Register::at(offset)? {
+            Register::Level => self.level = value & LINES_TO_15,
+            Register::Pending => self.pending = value & LINES_TO_31,
+            Register::Force => self.force = value & LINES_TO_15,
             // "Ones written to clear clear pending bits"; those of force stay.
-            CLEAR => self.pending &= !value,
-            MASK => self.mask = value & LINES_TO_31,
-            _ => {}
+            Register::Clear => self.pending &= !value,
+            Register::Mask => self.mask = value & LINES_TO_31,
+            // "Extended acknowledge ignores writes."
+            Register::ExtendedAcknowledge => {}
         }
+        Ok(())
     }
 
     /// Makes lines pending, whatever the mask, and whether or not they are already.

@@ -25,4 +25,6 @@ pub enum Refusal {
     Mark = 11,
     /// "the version isn't 1"
     Version = 12,
+    /// "Word accesses to an offset without a register" (02, No. 5)
+    NoRegister = 13,
 }

@@ -120,14 +120,18 @@ impl Entry {
 
 /// Does one record and returns its log record.
 pub fn execute(board: &mut Board, record: &[u8; CALL_LENGTH], mode: Mode) -> Entry {
-    let result = Call::decode(record).ok_or(Refusal::Malformed).and_then(|call| apply(board, call, mode));
-    let entry = result.unwrap_or_else(Entry::refused);
+    let mut entry = Entry::default();
+    let call = Call::decode(record).ok_or(Refusal::Malformed);
+    if let Err(refusal) = call.and_then(|call| apply(board, call, mode, &mut entry)) {
+        entry.refusal = refusal as u8;
+    }
     // "Levels are logged for every record, refused, malformed or cut short too": those after it.
-    Entry { levels: board.levels(), ..entry }
+    entry.levels = board.levels();
+    entry
 }
 
-fn apply(board: &mut Board, call: Call, mode: Mode) -> Result<Entry, Refusal> {
-    let mut entry = Entry::default();
+/// Does a call and notes what it produces, which is nothing if it is refused.
+fn apply(board: &mut Board, call: Call, mode: Mode, entry: &mut Entry) -> Result<(), Refusal> {
     match call {
         Call::Read { size, address } => entry.value = board.read(address, size)?,
         Call::Write { size, address, value } => entry.emitted = board.write(address, size, value)?,
@@ -148,7 +152,7 @@ fn apply(board: &mut Board, call: Call, mode: Mode) -> Result<Entry, Refusal> {
         Call::Reset => *board = Board::RESET,
         Call::Acknowledge => entry.value = board.irqmp.acknowledge(),
     }
-    Ok(entry)
+    Ok(())
 }
 
 /// Runs a script from reset and writes its log, or `refused 11` or `refused 12` and a newline for a

@@ -1,6 +1,8 @@
 //! GPTIMER unit: a prescaler and four timers, counting as 02, No. 3 says. Time passes by division, in two
 //! parts: cycles at the prescaler, and its ticks at the timers. Module `slow` has the single cycles.
 
+use crate::refusal::Refusal;
+
 pub const SCALER: u32 = 0x00;
 pub const SCALER_RELOAD: u32 = 0x04;
 pub const CONFIG: u32 = 0x08;
@@ -24,6 +26,30 @@ const CONTROL_WRITABLE: u32 = EN | RS | IE | CH;
 /// CONFIG's fixed fields: SI, interrupt 8, four timers.
 const CONFIG_FIXED: u32 = 0x144;
 const CONFIG_DF: u32 = 1 << 9;
+
+/// The unit's registers, those of a timer with its index. No other offset has one.
+enum Register {
+    Scaler,
+    ScalerReload,
+    Config,
+    Counter(usize),
+    Reload(usize),
+    Control(usize),
+}
+
+impl Register {
+    fn at(offset: u32) -> Result<Register, Refusal> {
+        match (offset / TIMER_STRIDE, offset % TIMER_STRIDE) {
+            (0, SCALER) => Ok(Register::Scaler),
+            (0, SCALER_RELOAD) => Ok(Register::ScalerReload),
+            (0, CONFIG) => Ok(Register::Config),
+            (n @ 1..=4, COUNTER) => Ok(Register::Counter(n as usize - 1)),
+            (n @ 1..=4, RELOAD) => Ok(Register::Reload(n as usize - 1)),
+            (n @ 1..=4, CONTROL) => Ok(Register::Control(n as usize - 1)),
+            _ => Err(Refusal::NoRegister),
+        }
+    }
+}
 
 /// What an advance or a skip did: the cycles passed and each timer's pulses in them.
 #[derive(Clone, Copy, Debug, Default, PartialEq, Eq)]
@@ -93,28 +119,12 @@ impl Timer {
         self.control & bits == bits
     }
 
-    fn read(&self, register: u32) -> u32 {
-        match register {
-            COUNTER => self.counter,
-            RELOAD => self.reload,
-            CONTROL => self.control,
-            _ => 0,
-        }
-    }
-
-    fn write(&mut self, register: u32, value: u32) {
-        match register {
-            COUNTER => self.counter = value,
-            RELOAD => self.reload = value,
-            CONTROL => {
-                // "A 1 in bit 4 clears IP, a 0 keeps it."
-                self.control = value & CONTROL_WRITABLE | self.control & IP & !value;
-                // "A 1 in bit 2 copies reload to counter."
-                if value & LD != 0 {
-                    self.counter = self.reload;
-                }
-            }
-            _ => {}
+    fn write_control(&mut self, value: u32) {
+        // "A 1 in bit 4 clears IP, a 0 keeps it."
+        self.control = value & CONTROL_WRITABLE | self.control & IP & !value;
+        // "A 1 in bit 2 copies reload to counter."
+        if value & LD != 0 {
+            self.counter = self.reload;
         }
     }
 
@@ -168,26 +178,29 @@ impl TimerUnit {
         ],
     };
 
-    /// Reads the word at an offset; one without a register "reads 0".
-    pub fn read(&self, offset: u32) -> u32 {
-        match (offset / TIMER_STRIDE, offset % TIMER_STRIDE) {
-            (0, SCALER) => u32::from(self.scaler),
-            (0, SCALER_RELOAD) => u32::from(self.scaler_reload),
-            (0, CONFIG) => CONFIG_FIXED | if self.df { CONFIG_DF } else { 0 },
-            (n @ 1..=4, register) => self.timers[n as usize - 1].read(register),
-            _ => 0,
-        }
+    /// Reads the register at an offset.
+    pub fn read(&self, offset: u32) -> Result<u32, Refusal> {
+        Ok(match Register::at(offset)? {
+            Register::Scaler => u32::from(self.scaler),
+            Register::ScalerReload => u32::from(self.scaler_reload),
+            Register::Config => CONFIG_FIXED | if self.df { CONFIG_DF } else { 0 },
+            Register::Counter(index) => self.timers[index].counter,
+            Register::Reload(index) => self.timers[index].reload,
+            Register::Control(index) => self.timers[index].control,
+        })
     }
 
-    /// Writes the word at an offset; one without a register "ignores writes".
-    pub fn write(&mut self, offset: u32, value: u32) {
-        match (offset / TIMER_STRIDE, offset % TIMER_STRIDE) {
-            (0, SCALER) => self.scaler = value as u16,
-            (0, SCALER_RELOAD) => self.scaler_reload = value as u16,
-            (0, CONFIG) => self.df = value & CONFIG_DF != 0,
-            (n @ 1..=4, register) => self.timers[n as usize - 1].write(register, value),
-            _ => {}
+    /// Writes the register at an offset.
+    pub fn write(&mut self, offset: u32, value: u32) -> Result<(), Refusal> {
+        match Register::at(offset)? {
+            Register::Scaler => self.scaler = value as u16,
+            Register::ScalerReload => self.scaler_reload = value as u16,
+            Register::Config => self.df = value & CONFIG_DF != 0,
+            Register::Counter(index) => self.timers[index].counter = value,
+            Register::Reload(index) => self.timers[index].reload = value,
+            Register::Control(index) => self.timers[index].write_control(value),
         }
+        Ok(())
     }
 
     /// "A tick now sets the prescaler value to the reload even where that is 0, and then each cycle

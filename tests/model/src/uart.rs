@@ -21,6 +21,26 @@ const STATUS_RCNT_SHIFT: u32 = 26;
 
 const FIFO_SIZE: usize = 8;
 
+/// The port's registers. No other offset has one.
+enum Register {
+    Data,
+    Status,
+    Control,
+    Scaler,
+}
+
+impl Register {
+    fn at(offset: u32) -> Result<Register, Refusal> {
+        match offset {
+            DATA => Ok(Register::Data),
+            STATUS => Ok(Register::Status),
+            CONTROL => Ok(Register::Control),
+            SCALER => Ok(Register::Scaler),
+            _ => Err(Refusal::NoRegister),
+        }
+    }
+}
+
 #[derive(Clone, Debug)]
 pub struct Uart {
     control: u32,
@@ -42,34 +62,33 @@ impl Uart {
         self.level
     }
 
-    /// Reads the word at an offset; one without a register "reads 0".
-    pub fn read(&mut self, offset: u32) -> u32 {
-        match offset {
-            DATA => self.take_received(),
-            STATUS => {
+    /// Reads the register at an offset.
+    pub fn read(&mut self, offset: u32) -> Result<u32, Refusal> {
+        Ok(match Register::at(offset)? {
+            Register::Data => self.take_received(),
+            Register::Status => {
                 let data_ready = if self.count > 0 { STATUS_DR } else { 0 };
                 STATUS_EMPTY | data_ready | (self.count as u32) << STATUS_RCNT_SHIFT
             }
-            CONTROL => self.control,
-            SCALER => u32::from(self.scaler),
-            _ => 0,
-        }
+            Register::Control => self.control,
+            Register::Scaler => u32::from(self.scaler),
+        })
     }
 
-    /// Writes the word at an offset and returns the byte emitted, if any. STATUS and offsets
-    /// without a register ignore it.
-    pub fn write(&mut self, offset: u32, value: u32) -> Option<u8> {
-        match offset {
+    /// Writes the register at an offset and returns the byte emitted, if any.
+    pub fn write(&mut self, offset: u32, value: u32) -> Result<Option<u8>, Refusal> {
+        match Register::at(offset)? {
             // "the low 8 bits are emitted at once if TE is 1, else dropped"
-            DATA if self.control & TE != 0 => return Some(value as u8),
-            CONTROL => {
+            Register::Data => return Ok((self.control & TE != 0).then_some(value as u8)),
+            // "Writes are ignored."
+            Register::Status => {}
+            Register::Control => {
                 self.control = value | FA;
                 self.update_level();
             }
-            SCALER => self.scaler = value as u8,
-            _ => {}
+            Register::Scaler => self.scaler = value as u8,
         }
-        None
+        Ok(None)
     }
 
     /// A byte arrives at the receiver: it "joins the queue's end if RE is 1 and fewer than 8 wait".

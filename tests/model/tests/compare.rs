@@ -78,9 +78,9 @@ fn soon(condition: impl Fn() -> bool) -> bool {
 
 #[test]
 fn the_model_is_counted_apart() {
-    // Of each 22 seeds, 0, 3, 5, 10, 12 and 15 are those of short spans, and from 1000 on there are the 12
+    // Of each 22 seeds, 0, 3, 5, 10, 12 and 15 are those of short spans, and from 1000 on there are the 13
     // numbers.
-    for (count, model) in [("5", 2), ("20", 6), ("1000", 285)] {
+    for (count, model) in [("5", 2), ("20", 6), ("1000", 286)] {
         let output =
             compare("apart", &[MODEL.as_ref(), "--count".as_ref(), count.as_ref()]).output().unwrap();
         let lines = lines(&output);

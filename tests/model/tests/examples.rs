@@ -1,5 +1,6 @@
 //! The bench examples of 01, as 02, No. 3 and No. 4 change them, and edge readings of both papers'
-//! sentences, through the script interface. Those of the interrupt controller are in `interrupts`. The numbers are worked out from the papers; comments say how.
+//! sentences, through the script interface. Those of the interrupt controller are in `interrupts`, those of
+//! No. 5 in `registers`. The numbers are worked out from the papers; comments say how.
 
 use std::io::{self, ErrorKind, Read};
 
@@ -160,10 +161,12 @@ fn refusals_of_accesses() {
         (4, 0x8010_0600, 2),
         (2, 0x8000_0100, 5),
         (4, 0x8000_0102, 4),
-        // Word offsets without a register.
-        (4, 0x8000_01FC, 0),
-        (4, 0x8000_030C, 0),
-        (4, 0x8000_0350, 0),
+        // Word offsets without a register; `registers` has them all.
+        (4, 0x8000_01FC, 13),
+        (4, 0x8000_02FC, 13),
+        (4, 0x8000_030C, 13),
+        (4, 0x8000_031C, 13),
+        (4, 0x8000_0350, 13),
     ];
     for (size, address, refusal) in table {
         let (read, write) = (Call::Read { size, address }, Call::Write { size, address, value: u32::MAX });

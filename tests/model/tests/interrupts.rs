@@ -118,12 +118,17 @@ fn extended_acknowledge_ignores_writes() {
 }
 
 #[test]
-fn offsets_without_a_register() {
+fn offsets_without_a_register_are_refused() {
     for address in (LEVEL..UNIT).step_by(4).filter(|address| !REGISTERS.contains(address)) {
         let full = controller(ALL, ALL, ALL, ALL);
-        check(&[&full, &[write(address, ALL), read(address)]], &[0]);
-        let left = [0, 0xFFFE, 0xFFFF_FFFE, 0xFFFE, 0, 0xFFFF_FFFE, 0];
-        check(&[&full, &[write(address, 0), read(address)], &read_all()], &left);
+        let left = entries(&[&full[..], &read_all()].concat()).split_off(4);
+        let mut refused = [0; ENTRY_LENGTH];
+        refused[0] = 13;
+        for value in [0, ALL] {
+            let calls = [&full[..], &[write(address, value), read(address)], &read_all()].concat();
+            let log = entries(&calls).split_off(4);
+            assert_eq!((&log[..2], &log[2..]), (&[refused; 2][..], &left[..]), "{address:X} {value:X}");
+        }
     }
 }
 

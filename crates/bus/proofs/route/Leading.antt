@@ -2,7 +2,7 @@
 -- nothing.
 use Prim.Native.Nat.{ℕ, _-_}
 use mathlib.Core.Path.{_≡_, refl, sym, ap, _∙_}
-use mathlib.Core.Bool.{Bool, true, cond, and-eq-true-iff}
+use mathlib.Core.Bool.{Bool, true, cond, not, and-eq-true-iff}
 use mathlib.Core.List.{List, [], _∷_}
 use native.Mathlib.Decide.{ℕ-discrete}
 use native.Mathlib.Omega.{arith}
@@ -10,25 +10,30 @@ use lib.Dec.{eqb, leb}
 use lib.Seq.{set-getD}
 use borrow.Author.Tests.{leb-false, lt-ltb}
 use Rattle.devices.specs.Cases.{chosen, tested}
-use Rattle.devices.specs.Refusal.{notRefused}
+use Rattle.devices.specs.Refusal.{notRefused, noRegister}
+use Rattle.devices.specs.Register.Laws.{ByOffset}
 use Rattle.devices.specs.Apbuart as uart
-use Rattle.devices.specs.Apbuart.Laws.{read-accepted, write-accepted, offer-refused}
+use Rattle.devices.specs.Apbuart.Laws as port′
 use Rattle.devices.specs.Gptimer as gpt
+use Rattle.devices.specs.Gptimer.Laws as unit′
+use Rattle.devices.specs.declared.gptimer.Answer as unit
 use Rattle.devices.specs.Irqmp as irq
 use Rattle.devices.specs.Irqmp.Laws as controller′
 use Rattle.devices.specs.declared.irqmp.Answer as controller
 use Rattle.bus.specs.Refusal.{badSize, noWindow, badRecord}
 use Rattle.bus.specs.Board.{allThere, isThere, holds, windowAt}
 use Rattle.bus.specs.Machine.{Machine, Answer, portAt, withPort, withUnit, withIrqmp}
-use Rattle.bus.specs.Machine.{wellFormed, noPulses, refused, ofPort, ofController}
+use Rattle.bus.specs.Machine.{wellFormed, noPulses, refused, ofPort, ofTimerUnit, ofController}
 use Rattle.bus.specs.Time.{step, stepped}
 use Rattle.bus.specs.Time.Laws.{quiet-step, quiet-answer}
-use Rattle.bus.specs.Call.{isSize, first, rules, access, byteFor, readDevice, writeDevice, reach, execute, windowOf}
+use Rattle.bus.specs.Call.{_when_, isSize, first, rules, access, byteFor, hasRegister}
+use Rattle.bus.specs.Call.{readDevice, writeDevice, reach, execute, windowOf}
 use Rattle.bus.specs.Call.{subject, answer, refusal}
-use Rattle.bus.specs.Call.Laws.{answer-executed, answer-refused, well-at, well-ports, well-irqmp, no-port-number, offer-number, other-number}
+use Rattle.bus.specs.Call.Laws.{answer-executed, answer-refused, well-at, well-ports, well-irqmp}
+use Rattle.bus.specs.Call.Laws.{first-then, no-port-number, offer-number, other-number}
 use Rattle.bus.specs.Route as routes
-use Rattle.bus.specs.Route.{portCalled, controllerCalled, carriedOut, Leads}
-use Rattle.bus.specs.Private.{windowNumber, readRoute, writeRoute, windowRoute, accessRoute, offerRoute}
+use Rattle.bus.specs.Route.{portCalled, unitCalled, controllerCalled, carriedOut, Leads}
+use Rattle.bus.specs.Private.{windowRules, windowNumber, readRoute, writeRoute, windowRoute, accessRoute, offerRoute}
 use Rattle.bus.specs.declared.board.Window.{Window}
 use Rattle.bus.specs.declared.board.Device.{Device}
 use Rattle.bus.specs.declared.board.Device.the-variants.{Port, TimerUnit, Controller}
@@ -53,11 +58,21 @@ route b Reset = to.Reset
 route b Acknowledge = to.Acknowledge
 route b Malformed = Refused badRecord
 
--- what a port answers that does not refuse
+-- What a port answers that does not refuse,
 called : (n : ℕ) (a : uart.Answer) (m : Machine) → a .refusal ≡ notRefused → stepped m (ofPort n a m) ≡ portCalled n a m
 called n a m e = rw e refl
 
--- and the controller
+-- what it refuses, which changes nothing,
+same-port : (n k : ℕ) (m : Machine) → refused k m ≡ portCalled n (uart.refused k (portAt n m)) m
+same-port n k m =
+    let stays : withPort n (portAt n m) m ≡ m = rw (set-getD (m .ports) n uart.resetState) refl in
+    ap (refused k) (sym (ap (step noPulses m) stays ∙ quiet-step m m refl))
+
+-- what the timer unit answers that does not refuse,
+united : (a : unit.Answer) (m : Machine) → a .refusal ≡ notRefused → stepped m (ofTimerUnit a m) ≡ unitCalled a m
+united a m e = quiet-answer (a .value) m (withUnit (a .unit) m) refl ∙ rw e refl
+
+-- and the controller.
 controlled : (a : controller.Answer) (m : Machine) → a .refusal ≡ notRefused → ofController a m ≡ controllerCalled a m
 controlled a m e = rw e refl
 
@@ -65,30 +80,57 @@ control-step :
     (a : controller.Answer) (m : Machine) → a .refusal ≡ notRefused → stepped m (ofController a m) ≡ controllerCalled a m
 control-step a m e = quiet-answer (a .value) m (withIrqmp (a .controller) m) refl ∙ controlled a m e
 
+-- An access, which a device answers by its offset: at a register what it does is a step, elsewhere it is refused.
+module _ (m : Machine) (has : Bool) where
+  port-out :
+      (n : ℕ) (a : uart.Answer) → ByOffset port′.Accepted (uart.refused noRegister (portAt n m)) has a →
+      cond has (stepped m (ofPort n a m)) (refused noRegister m) ≡ portCalled n a m
+  port-out n a h =
+      tested has (λ t. rw t (called n a m (h .there t)))
+      (λ t. rw t (same-port n noRegister m ∙ ap (λ (x : uart.Answer). portCalled n x m) (sym (h .lacking t))))
+
+  unit-out :
+      (a : unit.Answer) → ByOffset unit′.Accepted (gpt.refused noRegister (m .unit)) has a →
+      cond has (stepped m (ofTimerUnit a m)) (refused noRegister m) ≡ unitCalled a m
+  unit-out a h =
+      tested has (λ t. rw t (united a m (h .there t)))
+      (λ t. rw t (ap (λ (x : unit.Answer). unitCalled x m) (sym (h .lacking t))))
+
+  controller-out :
+      (a : controller.Answer) → ByOffset controller′.Accepted (irq.refused noRegister (m .irqmp)) has a →
+      cond has (stepped m (ofController a m)) (refused noRegister m) ≡ controllerCalled a m
+  controller-out a h =
+      tested has (λ t. rw t (control-step a m (h .there t)))
+      (λ t. rw t (ap (λ (x : controller.Answer). controllerCalled x m) (sym (h .lacking t))))
+
 module _ (m : Machine) (w : wellFormed m ≡ true) where
-  reads-out : (d : Device) (offset : ℕ) → stepped m (readDevice m d offset) ≡ carriedOut (readRoute d offset) m
+  reads-out :
+      (d : Device) (offset : ℕ) →
+      cond (hasRegister d offset) (stepped m (readDevice m d offset)) (refused noRegister m) ≡
+      carriedOut (readRoute d offset) m
   unfolding carriedOut
   reads-out (Port n) offset =
-      called n (uart.read offset (portAt n m)) m (read-accepted (portAt n m) (well-at (m .ports) n (well-ports m w)) offset)
-  reads-out TimerUnit offset = quiet-answer (gpt.read offset (m .unit)) m m refl
-  reads-out Controller offset =
-      control-step (irq.read offset (m .irqmp)) m (controller′.read-accepted (m .irqmp) (well-irqmp m w) offset)
+      port-out m _ n _ (port′.read-by-offset (portAt n m) (well-at (m .ports) n (well-ports m w)) offset)
+  reads-out TimerUnit offset = unit-out m _ _ (unit′.read-by-offset offset (m .unit))
+  reads-out Controller offset = controller-out m _ _ (controller′.read-by-offset (m .irqmp) (well-irqmp m w) offset)
 
   writes-out :
       (value : ℕ) (d : Device) (offset : ℕ) →
-      stepped m (writeDevice value m d offset) ≡ carriedOut (writeRoute value d offset) m
+      cond (hasRegister d offset) (stepped m (writeDevice value m d offset)) (refused noRegister m) ≡
+      carriedOut (writeRoute value d offset) m
   unfolding carriedOut
   writes-out value (Port n) offset =
-      called n (uart.write offset value (portAt n m)) m (write-accepted (portAt n m) (well-at (m .ports) n (well-ports m w)) offset value)
-  writes-out value TimerUnit offset = quiet-answer 0 m (withUnit (gpt.write offset value (m .unit)) m) refl
+      port-out m _ n _ (port′.write-by-offset (portAt n m) (well-at (m .ports) n (well-ports m w)) offset value)
+  writes-out value TimerUnit offset = unit-out m _ _ (unit′.write-by-offset offset value (m .unit))
   writes-out value Controller offset =
-      control-step (irq.write offset value (m .irqmp)) m
-      (controller′.write-accepted (m .irqmp) (well-irqmp m w) offset value)
+      controller-out m _ _ (controller′.write-by-offset (m .irqmp) (well-irqmp m w) offset value)
 
   -- an access, by the table's lines for one, which look at no machine
   module _
       (c : Call) (reply : Device → ℕ → Answer) (own : Device → ℕ → Route) (address size : ℕ)
-      (out : (d : Device) (offset : ℕ) → stepped m (reply d offset) ≡ carriedOut (own d offset) m) where
+      (out :
+      (d : Device) (offset : ℕ) →
+      cond (hasRegister d offset) (stepped m (reply d offset)) (refused noRegister m) ≡ carriedOut (own d offset) m) where
     window-out :
         (found : Found) → isSize size ≡ true → refusal (subject c m) m ≡ first (rules (access address size found) m) →
         execute c m ≡ stepped m (reach reply m address found) → answer c m ≡ carriedOut (windowRoute own address size found) m
@@ -97,10 +139,13 @@ module _ (m : Machine) (w : wellFormed m ≡ true) where
         answer-refused c m noWindow (sym (e ∙ rw sized refl)) (λ z. absurd (omega arith))
     window-out (In v) sized e f =
         let n = windowNumber address size v in
-        let number : refusal (subject c m) m ≡ n = e ∙ rw sized refl in
-        rw (number, f, out (v .device) (address - v .base))
-        (chosen (λ b (x : Route). cond b (carriedOut (own (v .device) (address - v .base)) m) (refused n m) ≡ carriedOut x m)
-        (eqb n notRefused) (own (v .device) (address - v .base)) (Refused n) refl refl)
+        let has = hasRegister (v .device) (address - v .base) in
+        let number : refusal (subject c m) m ≡ cond (eqb n notRefused) (first (noRegister when not has ∷ [])) n =
+        e ∙ rw sized (first-then (windowRules address size v) (noRegister when not has) refl) in
+        rw (number, f)
+        (tested (eqb n notRefused)
+        (λ z. rw (z, ← out (v .device) (address - v .base)) (tested has (λ t. rw t refl) (λ t. rw t refl)))
+        (λ z. rw (z, z) refl))
 
     accessed-out :
         (found : Found) → refusal (subject c m) m ≡ first (rules (access address size found) m) →
@@ -110,12 +155,7 @@ module _ (m : Machine) (w : wellFormed m ≡ true) where
         tested (isSize size) (λ sized. rw sized (window-out found sized e f))
         (λ other. rw other (answer-refused c m badSize (sym (e ∙ rw other refl)) (λ z. absurd (omega arith))))
 
-  -- an offered byte: one that the port refuses changes nothing
-  same-port : (n k : ℕ) → refused k m ≡ portCalled n (uart.refused k (portAt n m)) m
-  same-port n k =
-      let stays : withPort n (portAt n m) m ≡ m = rw (set-getD (m .ports) n uart.resetState) refl in
-      ap (refused k) (sym (ap (step noPulses m) stays ∙ quiet-step m m refl))
-
+  -- an offered byte
   offered-out : (n byte : ℕ) → answer (Offer n byte) m ≡ carriedOut (offerRoute (m .board) n byte) m
   unfolding carriedOut
   offered-out n byte =
@@ -129,8 +169,8 @@ module _ (m : Machine) (w : wellFormed m ≡ true) where
       (elim (ℕ-discrete (a .refusal) notRefused) [
         | yes z ↦ answer-executed (Offer n byte) m (sym own ∙ z) ∙ called n a m z
         | no differs ↦
-            answer-refused (Offer n byte) m (a .refusal) own differs ∙ same-port n (a .refusal) ∙
-            ap (λ (x : uart.Answer). portCalled n x m) (sym (offer-refused (portAt n m) byte differs))
+            answer-refused (Offer n byte) m (a .refusal) own differs ∙ same-port n (a .refusal) m ∙
+            ap (λ (x : uart.Answer). portCalled n x m) (sym (port′.offer-refused (portAt n m) byte differs))
       ]))
 
   routed : (c : Call) → answer c m ≡ carriedOut (route (m .board) c) m

@@ -2,7 +2,7 @@
 use Prim.Native.Nat.{ℕ, zero, suc, _-_}
 use mathlib.Core.Path.{_≡_, refl, sym, _∙_}
 use mathlib.Core.Bool.{Bool, true, false, cond, not, _&&_, and-eq-true-iff}
-use mathlib.Core.List.{List, [], _∷_}
+use mathlib.Core.List.{List, [], _∷_, _++_}
 use native.Mathlib.Decide.{decLt, ℕ-discrete}
 use native.Mathlib.Omega.{arith}
 use lib.Dec.{eqb, ltb, leb}
@@ -18,12 +18,13 @@ use Rattle.devices.specs.Gptimer as gpt
 use Rattle.devices.specs.Irqmp as irq
 use Rattle.devices.specs.Irqmp.Laws as controller′
 use Rattle.devices.specs.declared.gptimer.Gptimer.{Gptimer}
+use Rattle.devices.specs.declared.gptimer.Answer as unit
 use Rattle.devices.specs.declared.gptimer.Elapsed.{Elapsed}
 use Rattle.devices.specs.declared.irqmp.Irqmp.{Irqmp}
 use Rattle.devices.specs.declared.irqmp.Answer as controller
 use Rattle.bus.specs.Refusal.{noPort}
 use Rattle.bus.specs.Machine.{Machine, portAt, withUnit, withIrqmp, allWell, wellFormed, resetState}
-use Rattle.bus.specs.Machine.{Answer, refused, accepted, ofPort, ofController}
+use Rattle.bus.specs.Machine.{Answer, refused, accepted, ofPort, ofTimerUnit, ofController}
 use Rattle.bus.specs.Time as time
 use Rattle.bus.specs.Time.{stepped, ofSpan}
 use Rattle.bus.specs.Time.Laws.{quiet-answer, ofUnit, advance-unit, skip-unit}
@@ -51,6 +52,9 @@ module _
   unit-step : (value : ℕ) (u : Gptimer) → P (stepped m (accepted value (withUnit u m)))
   unit-step value u = rw (quiet-answer value m (withUnit u m) refl) (units value u)
 
+  unit-answer : (a : unit.Answer) → P (stepped m (ofTimerUnit a m))
+  unit-answer a = unit-step (a .value) (a .unit)
+
   controller-step :
       (a : controller.Answer) → irq.wellFormed (a .controller) ≡ irq.wellFormed (m .irqmp) → P (stepped m (ofController a m))
   controller-step a kept =
@@ -64,13 +68,13 @@ module _
 
   reads : (d : Device) (offset : ℕ) → P (stepped m (readDevice m d offset))
   reads (device.Port n) offset = ports n (uart.read offset (portAt n m)) (read-keeps offset (portAt n m))
-  reads device.TimerUnit offset = unit-step (gpt.read offset (m .unit)) (m .unit)
+  reads device.TimerUnit offset = unit-answer (gpt.read offset (m .unit))
   reads device.Controller offset = controller-step (irq.read offset (m .irqmp)) (controller′.read-keeps offset (m .irqmp))
 
   writes : (value : ℕ) (d : Device) (offset : ℕ) → P (stepped m (writeDevice value m d offset))
   writes value (device.Port n) offset =
       ports n (uart.write offset value (portAt n m)) (write-keeps offset value (portAt n m))
-  writes value device.TimerUnit offset = unit-step 0 (gpt.write offset value (m .unit))
+  writes value device.TimerUnit offset = unit-answer (gpt.write offset value (m .unit))
   writes value device.Controller offset =
       controller-step (irq.write offset value (m .irqmp)) (controller′.write-keeps offset value (m .irqmp))
 
@@ -153,7 +157,7 @@ abbrev pub noneGiven : List Rule → Bool
 noneGiven [] = true
 noneGiven (r ∷ rs) = not (r .given) && noneGiven rs
 
-abbrev numbered : List Rule → Bool
+abbrev pub numbered : List Rule → Bool
 numbered [] = true
 numbered (r ∷ rs) = not (eqb (r .number) notRefused) && numbered rs
 
@@ -162,6 +166,15 @@ first-none [] w = refl
 first-none (r ∷ rs) w =
     let others = and-eq-true-iff (not (eqb (r .number) notRefused)) (numbered rs) .0 w in
     tested (r .given) (λ given. rw given (not-true _ (others .0))) (λ e. rw e (first-none rs (others .1)))
+
+-- A line behind others is given where none of them is.
+pub first-then :
+    (rs : List Rule) (r : Rule) → numbered rs ≡ true →
+    first (rs ++ (r ∷ [])) ≡ cond (eqb (first rs) notRefused) (first (r ∷ [])) (first rs)
+first-then [] r w = refl
+first-then (q ∷ rs) r w =
+    let others = and-eq-true-iff (not (eqb (q .number) notRefused)) (numbered rs) .0 w in
+    tested (q .given) (λ given. rw (given, not-true (eqb (q .number) notRefused) (others .0)) refl) (λ e. rw e (first-then rs r (others .1)))
 
 table-numbered : (s : Subject) (m : Machine) → numbered (table s m) ≡ true
 table-numbered (call.access address size found) m = refl

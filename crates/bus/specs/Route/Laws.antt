@@ -19,12 +19,14 @@ use Rattle.devices.specs.Apbuart.View as port
 use Rattle.devices.specs.Apbuart.View.{portOf}
 use Rattle.devices.specs.Gptimer as gpt
 use Rattle.devices.specs.Irqmp as irq
+use Rattle.devices.specs.Gptimer.Laws as unit′
 use Rattle.devices.specs.Irqmp.Laws.{set-none, read-same, write-same, acknowledge-same}
 use Rattle.devices.specs.Gptimer.Span.{pass, countedDown, Tells}
 use Rattle.devices.specs.declared.apbuart.Apbuart.{Apbuart}
 use Rattle.devices.specs.declared.apbuart.Answer as apbuart
 use Rattle.devices.specs.declared.apbuart.Call.{Call}
 use Rattle.devices.specs.declared.gptimer.Gptimer.{Gptimer}
+use Rattle.devices.specs.declared.gptimer.Answer as unit
 use Rattle.devices.specs.declared.gptimer.Elapsed.{Elapsed}
 use Rattle.devices.specs.declared.gptimer.Span.{Span}
 use Rattle.devices.specs.declared.gptimer.Span.the-variants.{Cycles, ToPulse}
@@ -37,7 +39,7 @@ use Rattle.bus.specs.Machine as bus
 use Rattle.bus.specs.Time as time
 use Rattle.bus.specs.Time.{linesOf, pulsed, rises}
 use Rattle.bus.specs.Time.Laws.{still, quiet-lines, port-step, ofUnit, advance-unit, skip-unit}
-use Rattle.bus.specs.Route.{portAnswer, controllerAnswer, controllerCalled, spanAnswer, passes, carriedOut, portExists, Leads}
+use Rattle.bus.specs.Route.{portAnswer, valueAnswer, spanAnswer, passes, carriedOut, portExists, Leads}
 use Rattle.bus.specs.View.{machineOf}
 use Rattle.bus.specs.declared.machine.Machine.{Machine}
 use Rattle.bus.specs.declared.machine.Call as machine
@@ -117,50 +119,51 @@ module _ (m : Machine) (route : Route) where
       a .refusal ≡ notRefused → Outcome m route a next
   accepted-outcome a next e f z = record { answer = e; machine = f; same = λ refused. absurd (refused z) }
 
+  -- what the timer unit or the controller answers, with its own number and value; `next` has it stored
+  core-outcome :
+      (refusal value : ℕ) (next : Machine) → carriedOut route (machineOf m) ≡ valueAnswer refusal value (machineOf next) →
+      ((refusal ≡ notRefused → ⊥) → next ≡ m) → Outcome m route (valueAnswer refusal value (machineOf next)) next
+  core-outcome refusal value next e back = record { answer = e; machine = refl; same = back }
+
   pub unit-read-outcome :
-      (core : Core) (offset value : ℕ) → route ≡ Read offset core → core ≡ TimerUnit → value ≡ gpt.read offset (m .unit) →
-      Outcome m route (bus.accepted value (machineOf m)) m
+      (core : Core) (offset : ℕ) (x : unit.Answer) → route ≡ Read offset core → core ≡ TimerUnit →
+      x ≡ gpt.read offset (m .unit) → Outcome m route (valueAnswer (x .refusal) (x .value) (machineOf m)) m
   unfolding carriedOut
-  unit-read-outcome core offset value e k f = accepted-outcome _ m (rw (e, k, f) refl) refl refl
+  unit-read-outcome core offset x e k f =
+      core-outcome _ _ m (rw (e, k, f, unit′.read-same offset (m .unit)) refl) (λ refused. refl)
 
   pub unit-write-outcome :
-      (core : Core) (offset value : ℕ) (u : Gptimer) → route ≡ Write offset value core → core ≡ TimerUnit →
-      u ≡ gpt.write offset value (m .unit) → Outcome m route (bus.accepted 0 (machineOf (storeUnit u m))) (storeUnit u m)
+      (core : Core) (offset value : ℕ) (x : unit.Answer) → route ≡ Write offset value core → core ≡ TimerUnit →
+      x ≡ gpt.write offset value (m .unit) →
+      Outcome m route (valueAnswer (x .refusal) (x .value) (machineOf (storeUnit (x .unit) m))) (storeUnit (x .unit) m)
   unfolding carriedOut
-  unit-write-outcome core offset value u e k f = accepted-outcome _ (storeUnit u m) (rw (e, k, f) refl) refl refl
-
-  -- what the controller answers
-  controlled :
-      (x : irqmp.Answer) → carriedOut route (machineOf m) ≡ controllerCalled x (machineOf m) →
-      ((x .refusal ≡ notRefused → ⊥) → x .controller ≡ m .irqmp) →
-      Outcome m route (controllerAnswer x (machineOf (storeIrqmp (x .controller) m))) (storeIrqmp (x .controller) m)
-  controlled x e back = record { answer = e; machine = refl; same = λ refused. rw (back refused) refl }
+  unit-write-outcome core offset value x e k f =
+      core-outcome _ _ (storeUnit (x .unit) m) (rw (e, k, ← f) refl)
+      (rw f (λ refused. rw (unit′.write-same offset value (m .unit) refused) refl))
 
   pub controller-read-outcome :
       (core : Core) (offset : ℕ) (x : irqmp.Answer) → route ≡ Read offset core → core ≡ Controller →
-      x ≡ irq.read offset (m .irqmp) → Outcome m route (controllerAnswer x (machineOf m)) m
+      x ≡ irq.read offset (m .irqmp) → Outcome m route (valueAnswer (x .refusal) (x .value) (machineOf m)) m
   unfolding carriedOut
   controller-read-outcome core offset x e k f =
-      let kept : x .controller ≡ m .irqmp = ap (λ (a : irqmp.Answer). a .controller) f ∙ read-same offset (m .irqmp) in
-      record {
-        answer = rw (e, k, ← f) (ap (λ (c : Irqmp). controllerAnswer x (machineOf (storeIrqmp c m))) kept);
-        machine = refl;
-        same = λ refused. refl;
-      }
+      core-outcome _ _ m (rw (e, k, f, read-same offset (m .irqmp)) refl) (λ refused. refl)
 
   pub controller-write-outcome :
       (core : Core) (offset value : ℕ) (x : irqmp.Answer) → route ≡ Write offset value core → core ≡ Controller →
       x ≡ irq.write offset value (m .irqmp) →
-      Outcome m route (controllerAnswer x (machineOf (storeIrqmp (x .controller) m))) (storeIrqmp (x .controller) m)
+      Outcome m route (valueAnswer (x .refusal) (x .value) (machineOf (storeIrqmp (x .controller) m))) (storeIrqmp (x .controller) m)
   unfolding carriedOut
   controller-write-outcome core offset value x e k f =
-      controlled x (rw (e, k, ← f) refl) (rw f (write-same offset value (m .irqmp)))
+      core-outcome _ _ (storeIrqmp (x .controller) m) (rw (e, k, ← f) refl)
+      (rw f (λ refused. rw (write-same offset value (m .irqmp) refused) refl))
 
   pub acknowledge-outcome :
       (x : irqmp.Answer) → route ≡ Acknowledge → x ≡ irq.acknowledge (m .irqmp) →
-      Outcome m route (controllerAnswer x (machineOf (storeIrqmp (x .controller) m))) (storeIrqmp (x .controller) m)
+      Outcome m route (valueAnswer (x .refusal) (x .value) (machineOf (storeIrqmp (x .controller) m))) (storeIrqmp (x .controller) m)
   unfolding carriedOut
-  acknowledge-outcome x e f = controlled x (rw (e, ← f) refl) (rw f (acknowledge-same (m .irqmp)))
+  acknowledge-outcome x e f =
+      core-outcome _ _ (storeIrqmp (x .controller) m) (rw (e, ← f) refl)
+      (rw f (λ refused. rw (acknowledge-same (m .irqmp) refused) refl))
 
   pub pass-outcome :
       (span : Span) (x : Elapsed) (d : Irqmp) → route ≡ Pass span → x ≡ pass span (m .unit) →

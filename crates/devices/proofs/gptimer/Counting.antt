@@ -3,7 +3,7 @@ use Prim.Native.Nat.{ℕ, suc, _+_, _-_, _%_, _^_, _<_, _≤_}
 use mathlib.Core.Path.{_≡_, refl, ap, sym, _∙_}
 use mathlib.Core.Bool.{true, false}
 use Rattle.devices.specs.Cases.{same}
-use Rattle.devices.specs.Gptimer.{withCounter, withIp, withEn}
+use Rattle.devices.specs.Gptimer.{withCounter, withIp}
 use Rattle.devices.specs.Gptimer.Direct.{periods, standing, stopped, counted, underflowPulses, countsIn, countedTimer, servedTimer}
 use Rattle.devices.specs.Gptimer.Direct.Countdown.{stands-first, stands-past}
 use Rattle.devices.proofs.gptimer.Countdown.{no-wrap}

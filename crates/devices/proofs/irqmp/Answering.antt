@@ -79,5 +79,8 @@ module _ (c : Irqmp) where
         (v w : ℕ) (d f : Irqmp) → r ≡ true → v ≡ w → d ≡ f → x ≡ irq.accepted v d → x ≡ irq.guarded c (irq.accepted w f)
     is-well v w d f t g h k = rw (← e, t, ← g, ← h) k
 
+    pub is-answered : (a : Answer) → r ≡ true → x ≡ a → x ≡ irq.guarded c a
+    is-answered a t k = rw (← e, t) k
+
     pub is-ill : (a : Answer) → r ≡ false → x ≡ irq.refused illFormed c → x ≡ irq.guarded c a
     is-ill a t k = rw (← e, t) k

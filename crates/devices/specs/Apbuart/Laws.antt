@@ -10,10 +10,11 @@ use lib.Dec.{leb, ltb}
 use borrow.Author.Tests.{leb-true, le-leb, ltb-true, eq-eqb}
 use Rattle.devices.specs.Word.{bit}
 use Rattle.devices.specs.Cases.{chosen}
-use Rattle.devices.specs.Refusal.{notRefused, illFormed}
+use Rattle.devices.specs.Refusal.{notRefused, illFormed, noRegister}
+use Rattle.devices.specs.Register.Laws.{ByOffset, by-offset}
 use Rattle.devices.specs.Apbuart.{Port, Answer, FA, depth, wellFormed, refused, accepted, guarded}
 use Rattle.devices.specs.Apbuart.{withQueue, updateLevel, younger, writeControl, writeScaler}
-use Rattle.devices.specs.Apbuart.{readRegister, writeRegister, receive, resetState, read, write, offer, reset}
+use Rattle.devices.specs.Apbuart.{hasRegister, readRegister, writeRegister, receive, resetState, read, write, offer, reset}
 
 -- a well-formed port's CONTROL has bit 31, and its queue is within the depth
 well-control : (p : Port) → wellFormed p ≡ true → bit FA (p .control) ≡ true
@@ -85,20 +86,28 @@ pub reset-keeps : (p : Port) → wellFormed (reset p .port) ≡ wellFormed p
 unfolding reset wellFormed
 reset-keeps p = keeps p (accepted 0 resetState) (λ w. refl)
 
--- an access of a well-formed port is not refused
-either-accepted : (b : Bool) (x y : Answer) → x .refusal ≡ notRefused → y .refusal ≡ notRefused → cond b x y .refusal ≡ notRefused
-either-accepted b x y e f = chosen (λ c (a : Answer). a .refusal ≡ notRefused) b x y e f
+-- an access of a well-formed port is not refused where the offset has a register, and gets 13 where it has none
+abbrev pub Accepted : Answer → Type 0
+Accepted a = a .refusal ≡ notRefused
+
+either-accepted : (b : Bool) (x y : Answer) → Accepted x → Accepted y → Accepted (cond b x y)
+either-accepted b x y e f = chosen (λ c (a : Answer). Accepted a) b x y e f
 
 module _ (p : Port) (w : wellFormed p ≡ true) where
-  pub read-accepted : (offset : ℕ) → read offset p .refusal ≡ notRefused
+  pub read-by-offset : (offset : ℕ) → ByOffset Accepted (refused noRegister p) (hasRegister offset) (read offset p)
   unfolding read
-  read-accepted offset =
-      let register : readRegister offset p .refusal ≡ notRefused = search either-accepted depth 12 in rw w register
+  read-by-offset offset =
+      let register : ByOffset Accepted (refused noRegister p) (hasRegister offset) (readRegister offset p) =
+      search (by-offset, either-accepted) depth 12 in
+      rw w register
 
-  pub write-accepted : (offset value : ℕ) → write offset value p .refusal ≡ notRefused
+  pub write-by-offset :
+      (offset value : ℕ) → ByOffset Accepted (refused noRegister p) (hasRegister offset) (write offset value p)
   unfolding write
-  write-accepted offset value =
-      let register : writeRegister offset value p .refusal ≡ notRefused = search either-accepted depth 12 in rw w register
+  write-by-offset offset value =
+      let register : ByOffset Accepted (refused noRegister p) (hasRegister offset) (writeRegister offset value p) =
+      search (by-offset, either-accepted) depth 12 in
+      rw w register
 
 -- an offered byte that is refused changes nothing
 record Unchanged (p : Port) (a : Answer) : Type 0 where

@@ -9,13 +9,44 @@ use native.Mathlib.Omega.{arith}
 use lib.Dec.{eqb}
 use lib.ListN.{getD}
 use Rattle.devices.specs.Cases.{chosen}
+use Rattle.devices.specs.Refusal.{notRefused, noRegister}
+use Rattle.devices.specs.Register.Laws.{ByOffset, by-offset, otherwise}
+use Rattle.devices.specs.Gptimer.{hasRegister, refused, read, write}
 use Rattle.devices.specs.Gptimer.{place, serve, underflowsNow, countUnderflows, countsNow, count}
 use Rattle.devices.specs.Gptimer.{addPulses, anyPulse, noCycle, cycleThen, cycle, cyclePulses, advance, skip}
 use Rattle.devices.specs.Gptimer.Pulses.{adds-assoc, any-add, any-none, none-advance}
 use Rattle.devices.specs.Gptimer.Pulses.{at-add, at-none, at-quiet, at-pulses}
 use Rattle.devices.specs.declared.gptimer.Timer.{Timer}
 use Rattle.devices.specs.declared.gptimer.Gptimer.{Gptimer}
+use Rattle.devices.specs.declared.gptimer.Answer.{Answer}
 use Rattle.devices.specs.declared.gptimer.Elapsed.{Elapsed}
+
+-- An access is not refused where the offset has a register, and gets 13 where it has none.
+abbrev pub Accepted : Answer → Type 0
+Accepted a = a .refusal ≡ notRefused
+
+pub read-by-offset :
+    (offset : ℕ) (u : Gptimer) → ByOffset Accepted (refused noRegister u) (hasRegister offset) (read offset u)
+unfolding read
+read-by-offset offset u = rw (or-assoc, or-assoc, or-assoc) (search by-offset depth 20)
+
+pub write-by-offset :
+    (offset value : ℕ) (u : Gptimer) → ByOffset Accepted (refused noRegister u) (hasRegister offset) (write offset value u)
+unfolding write
+write-by-offset offset value u = rw (or-assoc, or-assoc, or-assoc) (search by-offset depth 20)
+
+-- A refused access changes nothing, and a read never does.
+pub write-same :
+    (offset value : ℕ) (u : Gptimer) → (Accepted (write offset value u) → ⊥) → write offset value u .unit ≡ u
+write-same offset value u differs =
+    ap (λ (a : Answer). a .unit) (otherwise Accepted _ _ _ (write-by-offset offset value u) differs)
+
+pub read-same : (offset : ℕ) (u : Gptimer) → read offset u .unit ≡ u
+unfolding read
+read-same offset u = search either-left depth 20
+  where
+    either-left : (b : Bool) (x y : Answer) → x .unit ≡ u → y .unit ≡ u → cond b x y .unit ≡ u
+    either-left b x y e f = chosen (λ t (a : Answer). a .unit ≡ u) b x y e f
 
 -- Two spans, one after the other.
 abbrev pub consecutive : Elapsed → Elapsed → Elapsed

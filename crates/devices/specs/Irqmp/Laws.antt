@@ -9,14 +9,17 @@ use lib.Bits.{bitAnd, bitOr, and-self, and-comm, or-zero-r}
 use lib.Dec.{eqb, leb}
 use borrow.Author.Tests.{eq-eqb, eqb-true, le-leb}
 use Rattle.devices.specs.Cases.{chosen, tested}
-use Rattle.devices.specs.Refusal.{notRefused}
+use Rattle.devices.specs.Refusal.{notRefused, noRegister}
+use Rattle.devices.specs.Register.Laws.{ByOffset, by-offset, otherwise}
 use Rattle.devices.specs.Word.{without}
 use Rattle.devices.specs.Word.Laws.{and-assoc, or-assoc, or-and}
 use Rattle.devices.specs.Irqmp.{lines1To15, lines1To31, within, mayBeNoted, wellFormed, resetState}
 use Rattle.devices.specs.Irqmp.{withLevel, withPending, withForce, withMask, withExtended, writeRegister, withLines}
 use Rattle.devices.specs.Irqmp.{waits, highest, extendedLine, orElse, lineTaken, take, take12, taken}
-use Rattle.devices.specs.Irqmp.{accepted, guarded, read, write, setPending, acknowledge, reset}
+use Rattle.devices.specs.Irqmp.{hasRegister, readRegister}
+use Rattle.devices.specs.Irqmp.{refused, accepted, guarded, read, write, setPending, acknowledge, reset}
 use Rattle.devices.specs.declared.irqmp.Irqmp.{Irqmp}
+use Rattle.devices.specs.declared.irqmp.Answer.{Answer}
 
 -- The highest line that passes a test, where two tests agree on the lines looked at, and where no line above k passes.
 pub highest-same : (k : ℕ) (s t : ℕ → Bool) → ((n : ℕ) → 0 < n → n ≤ k → s n ≡ t n) → highest k s ≡ highest k t
@@ -127,9 +130,14 @@ well-by : (c : Irqmp) → Well c → wellFormed c ≡ true
 unfolding wellFormed
 well-by c w = rw (w .levels, w .pendings, w .forces, w .masks, w .notes) refl
 
--- whichever a test chooses
+-- whichever a test chooses, of controllers and of what answers leave
 either-well : (b : Bool) (x y : Irqmp) → wellFormed x ≡ true → wellFormed y ≡ true → wellFormed (cond b x y) ≡ true
 either-well b x y e f = chosen (λ t (d : Irqmp). wellFormed d ≡ true) b x y e f
+
+either-left-well :
+    (b : Bool) (x y : Answer) → wellFormed (x .controller) ≡ true → wellFormed (y .controller) ≡ true →
+    wellFormed (cond b x y .controller) ≡ true
+either-left-well b x y e f = chosen (λ t (a : Answer). wellFormed (a .controller) ≡ true) b x y e f
 
 -- A register that is stored, lines that are set, and lines that are cleared.
 module _ (c : Irqmp) (w : wellFormed c ≡ true) where
@@ -175,9 +183,9 @@ module _ (c : Irqmp) (w : wellFormed c ≡ true) where
   set-well : (lines : ℕ) → wellFormed (withLines lines c) ≡ true
   set-well lines = pending-is _ (more-within lines1To31 (c .pending) lines (well-of c w .pendings))
 
-  written-well : (offset value : ℕ) → wellFormed (writeRegister offset value c) ≡ true
+  written-well : (offset value : ℕ) → wellFormed (writeRegister offset value c .controller) ≡ true
   written-well offset value =
-      search (either-well, level-stored, pending-stored, force-stored, pending-cleared, mask-stored) depth 12
+      search (either-left-well, level-stored, pending-stored, force-stored, pending-cleared, mask-stored) depth 12
 
   take-well : (n : ℕ) → wellFormed (take n c) ≡ true
   take-well n = search (either-well, force-cleared, pending-cleared)
@@ -190,59 +198,58 @@ taken-well c w n = search (either-well, take12-well, take-well)
 
 -- A call neither makes an ill-formed controller nor repairs one.
 keeps :
-    (c d : Irqmp) (value : ℕ) → (wellFormed c ≡ true → wellFormed d ≡ true) →
-    wellFormed (guarded c (accepted value d) .controller) ≡ wellFormed c
-keeps c d value f = tested (wellFormed c) (λ w. rw (w, f w) refl) (λ ill. rw ill ill)
+    (c : Irqmp) (a : Answer) → (wellFormed c ≡ true → wellFormed (a .controller) ≡ true) →
+    wellFormed (guarded c a .controller) ≡ wellFormed c
+keeps c a f = tested (wellFormed c) (λ w. rw (w, f w) refl) (λ ill. rw ill ill)
+
+read-left : (offset : ℕ) (c : Irqmp) → readRegister offset c .controller ≡ c
+read-left offset c = search either-left depth 12
+  where
+    either-left :
+        (b : Bool) (x y : Answer) → x .controller ≡ c → y .controller ≡ c → cond b x y .controller ≡ c
+    either-left b x y e f = chosen (λ t (a : Answer). a .controller ≡ c) b x y e f
 
 pub read-keeps : (offset : ℕ) (c : Irqmp) → wellFormed (read offset c .controller) ≡ wellFormed c
 unfolding read
-read-keeps offset c = keeps c c _ (λ w. w)
+read-keeps offset c = keeps c (readRegister offset c) (λ w. rw (read-left offset c) w)
 
 pub write-keeps : (offset value : ℕ) (c : Irqmp) → wellFormed (write offset value c .controller) ≡ wellFormed c
 unfolding write
-write-keeps offset value c = keeps c _ 0 (λ w. written-well c w offset value)
+write-keeps offset value c = keeps c (writeRegister offset value c) (λ w. written-well c w offset value)
 
 pub set-keeps : (lines : ℕ) (c : Irqmp) → wellFormed (setPending lines c .controller) ≡ wellFormed c
 unfolding setPending
-set-keeps lines c = keeps c _ 0 (λ w. set-well c w lines)
+set-keeps lines c = keeps c (accepted 0 (withLines lines c)) (λ w. set-well c w lines)
 
 pub acknowledge-keeps : (c : Irqmp) → wellFormed (acknowledge c .controller) ≡ wellFormed c
 unfolding acknowledge
-acknowledge-keeps c = keeps c _ (lineTaken c) (λ w. taken-well c w (lineTaken c))
+acknowledge-keeps c = keeps c (accepted (lineTaken c) (taken (lineTaken c) c)) (λ w. taken-well c w (lineTaken c))
 
 pub reset-keeps : (c : Irqmp) → wellFormed (reset c .controller) ≡ wellFormed c
 unfolding reset wellFormed
-reset-keeps c = keeps c resetState 0 (λ w. refl)
+reset-keeps c = keeps c (accepted 0 resetState) (λ w. refl)
 
--- A refused call changes nothing, and a read never does.
-refused-same :
-    (c d : Irqmp) (value : ℕ) → (guarded c (accepted value d) .refusal ≡ notRefused → ⊥) →
-    guarded c (accepted value d) .controller ≡ c
-refused-same c d value refused =
-    tested (wellFormed c) (λ w. absurd (refused (rw w refl))) (λ ill. rw ill refl)
+-- A well-formed controller refuses an access of an offset without a register, with 13, and no other call.
+abbrev pub Accepted : Answer → Type 0
+Accepted a = a .refusal ≡ notRefused
 
-pub write-same :
-    (offset value : ℕ) (c : Irqmp) → (write offset value c .refusal ≡ notRefused → ⊥) → write offset value c .controller ≡ c
-unfolding write
-write-same offset value c = refused-same c (writeRegister offset value c) 0
+at-offset : (offset : ℕ) (c : Irqmp) → ByOffset Accepted (refused noRegister c) (hasRegister offset) (readRegister offset c)
+at-offset offset c = search by-offset depth 12
 
-pub acknowledge-same : (c : Irqmp) → (acknowledge c .refusal ≡ notRefused → ⊥) → acknowledge c .controller ≡ c
-unfolding acknowledge
-acknowledge-same c = refused-same c (taken (lineTaken c) c) (lineTaken c)
+written-at-offset :
+    (offset value : ℕ) (c : Irqmp) →
+    ByOffset Accepted (refused noRegister c) (hasRegister offset) (writeRegister offset value c)
+written-at-offset offset value c = search by-offset depth 12
 
-pub read-same : (offset : ℕ) (c : Irqmp) → read offset c .controller ≡ c
-unfolding read
-read-same offset c = tested (wellFormed c) (λ w. rw w refl) (λ ill. rw ill refl)
-
--- A well-formed controller refuses no call.
 module _ (c : Irqmp) (w : wellFormed c ≡ true) where
-  pub read-accepted : (offset : ℕ) → read offset c .refusal ≡ notRefused
+  pub read-by-offset : (offset : ℕ) → ByOffset Accepted (refused noRegister c) (hasRegister offset) (read offset c)
   unfolding read
-  read-accepted offset = rw w refl
+  read-by-offset offset = rw w (at-offset offset c)
 
-  pub write-accepted : (offset value : ℕ) → write offset value c .refusal ≡ notRefused
+  pub write-by-offset :
+      (offset value : ℕ) → ByOffset Accepted (refused noRegister c) (hasRegister offset) (write offset value c)
   unfolding write
-  write-accepted offset value = rw w refl
+  write-by-offset offset value = rw w (written-at-offset offset value c)
 
   pub set-accepted : (lines : ℕ) → setPending lines c .refusal ≡ notRefused
   unfolding setPending
@@ -251,6 +258,27 @@ module _ (c : Irqmp) (w : wellFormed c ≡ true) where
   pub acknowledge-accepted : acknowledge c .refusal ≡ notRefused
   unfolding acknowledge
   acknowledge-accepted = rw w refl
+
+-- A refused call changes nothing, and a read never does.
+refused-same :
+    (c : Irqmp) (a : Answer) → ((Accepted a → ⊥) → a .controller ≡ c) → (Accepted (guarded c a) → ⊥) →
+    guarded c a .controller ≡ c
+refused-same c a same differs = tested (wellFormed c) (λ w. rw w (same (rw w at differs))) (λ ill. rw ill refl)
+
+pub write-same :
+    (offset value : ℕ) (c : Irqmp) → (Accepted (write offset value c) → ⊥) → write offset value c .controller ≡ c
+unfolding write
+write-same offset value c =
+    refused-same c (writeRegister offset value c)
+    (λ differs. ap (λ (a : Answer). a .controller) (otherwise Accepted _ _ _ (written-at-offset offset value c) differs))
+
+pub acknowledge-same : (c : Irqmp) → (Accepted (acknowledge c) → ⊥) → acknowledge c .controller ≡ c
+unfolding acknowledge
+acknowledge-same c = refused-same c (accepted (lineTaken c) (taken (lineTaken c) c)) (λ differs. absurd (differs refl))
+
+pub read-same : (offset : ℕ) (c : Irqmp) → read offset c .controller ≡ c
+unfolding read
+read-same offset c = tested (wellFormed c) (λ w. rw w (read-left offset c)) (λ ill. rw ill refl)
 
 -- No lines leave the controller as it is, and lines that are set one after the other are set at once.
 pub set-none : (c : Irqmp) → setPending 0 c .controller ≡ c

@@ -21,7 +21,7 @@ const DESCRIBED: u64 = 5;
 /// Scripts in a row without an end after which no more are tried.
 const LATE_IN_A_ROW: u32 = 3;
 /// Numbers that scripts can show, and must have shown once that many have run.
-const SHOWN: [usize; 12] = [0, 1, 2, 3, 4, 5, 6, 7, 8, 10, 11, 12];
+const SHOWN: [usize; 13] = [0, 1, 2, 3, 4, 5, 6, 7, 8, 10, 11, 12, 13];
 const ENOUGH_TO_SHOW: u64 = 1000;
 
 fn main() -> ExitCode {
@@ -160,7 +160,7 @@ struct Tally {
     model: Count,
     scripts: [u64; FAMILIES.len()],
     records: u64,
-    numbers: [u64; 13],
+    numbers: [u64; 14],
 }
 
 impl Tally {

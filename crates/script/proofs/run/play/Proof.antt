@@ -84,7 +84,7 @@ play-spec =
       search needs,
       search (needs, length-of),
       search needs,
-      turn (routed .before .before) _ _ _ _ (c .before .before .put3 .ensures) (replies .accepted .ensures)
+      turn (routed .before .before) _ _ _ _ (c .before .before .put3 .ensures) (replies .valued .ensures)
           (search (unit-read-outcome, routed .route3 .given, told .enum-told .given, called .read .ensures)),
     ))
     (λ c. search needs) (λ c κs. search needs) (λ c κs. search needs) (λ c κs. search needs) (λ c. search needs)
@@ -96,23 +96,11 @@ play-spec =
       search needs,
       search (needs, length-of),
       search needs,
-      turn (routed .before .before) _ _ _ _ (c .before .before .put4 .ensures) (replies .of-controller .ensures)
+      turn (routed .before .before) _ _ _ _ (c .before .before .put4 .ensures) (replies .valued2 .ensures)
           (search (controller-read-outcome, routed .route3 .given, told .enum-told2 .given, called .read2 .ensures)),
     ))
     -- a write
     (λ c. search needs) (λ c. search needs) (λ c κs. search needs) (λ c κs. search needs) (λ c κs. search needs) (λ c. search needs)
-    (λ c.
-    let replies = c .before .before .before in
-    let called = replies .before .before in
-    let told = called .before .before in
-    let routed = told .before .before .before in (
-      search needs,
-      search (needs, length-of),
-      search needs,
-      turn (routed .before .before) _ _ _ _ (c .before .before .put5 .ensures) (replies .accepted2 .ensures)
-          (search (unit-write-outcome, routed .route4 .given, told .enum-told3 .given, called .write .ensures)),
-    ))
-    (λ c. search needs) (λ c κs. search needs) (λ c κs. search needs) (λ c κs. search needs) (λ c. search needs)
     (λ c.
     let replies = c .before .before .before in
     let called = replies .before .before .before in
@@ -121,7 +109,24 @@ play-spec =
       search needs,
       search (needs, length-of),
       search needs,
-      turn (routed .before .before) _ _ _ _ (c .before .before .put6 .ensures) (replies .of-controller2 .ensures)
+      turn (routed .before .before) _ _ _ _ (c .before .before .put5 .ensures) (replies .valued3 .ensures)
+          (search (unit-write-outcome, routed .route4 .given, told .enum-told3 .given, called .write .ensures)),
+    ))
+    (λ c. search needs) (λ c κs. search needs) (λ c κs. search needs)
+    (λ c κs.
+    let told = c .before .before .before .before .before in
+    let led = told .before .before .before .before .before in
+    search (needs, led .before .before))
+    (λ c. search needs)
+    (λ c.
+    let replies = c .before .before .before in
+    let called = replies .before .before .before in
+    let told = called .before .before in
+    let routed = told .before .before .before in (
+      search needs,
+      search (needs, length-of),
+      search needs,
+      turn (routed .before .before) _ _ _ _ (c .before .before .put6 .ensures) (replies .valued4 .ensures)
           (search (controller-write-outcome, routed .route4 .given, told .enum-told4 .given, called .write2 .ensures)),
     ))
     -- an acknowledge
@@ -171,7 +176,7 @@ play-spec =
       search needs,
       search (needs, length-of, made .reset-state),
       search needs,
-      turn (told .before .before) _ _ _ _ (c .before .before .put10 .ensures) (replies .accepted3 .ensures)
+      turn (told .before .before) _ _ _ _ (c .before .before .put10 .ensures) (replies .valued6 .ensures)
           (search (reset-outcome, told .enum-told7 .given, made .reset-state .ensures)),
     ))
     (λ c. search needs) (λ c. search all-played))

@@ -36,7 +36,7 @@ returns c =
     (λ w. well-called tested levels (w .10) (w .11) (w .0 .taken) (w .1 .ensures) (w .9 .ensures) (search controller-read-outcome))
     -- a write
     (⊎-elim
-    (λ w. well-called tested levels (w .10) (w .11) (w .0 .taken) (w .1 .ensures) (w .9 .ensures) (search unit-write-outcome))
+    (λ w. well-called tested levels (w .11) (w .12) (w .0 .taken) (w .1 .ensures) (w .10 .ensures) (search unit-write-outcome))
     (⊎-elim
     (λ w. well-called tested levels (w .11) (w .12) (w .0 .taken) (w .1 .ensures) (w .10 .ensures) (search controller-write-outcome))
     -- an acknowledge

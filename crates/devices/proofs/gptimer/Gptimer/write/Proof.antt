@@ -9,7 +9,4 @@ pub write-spec : {M : Type 1} → statement M
 unfolding write
 write-spec =
     tie.close
-    (tie.spec (λ c. search needs) (λ c. search cases depth 12) (λ c. search needs) (λ c. search cases depth 12)
-    (λ c. search cases depth 12) (λ c. search needs) (λ c. search cases depth 12) (λ c. search cases depth 12)
-    (λ c. search needs) (λ c. search needs) (λ c κs. search needs) (λ c. search needs) (λ c. search needs)
-    (λ c. rw (← c .write .ensures) (search cases depth 12)))
+    (tie.spec (λ c. search needs) (λ c κs. search needs) (λ c. search cases depth 12) (λ c. search needs) (λ c κs. search needs) (λ c. search cases depth 12) (λ c κs. search needs) (λ c. search cases depth 12) (λ c. search needs) (λ c κs. search needs) (λ c. search cases depth 12) (λ c κs. search needs) (λ c. search cases depth 12) (λ c κs. search needs) (λ c. search cases depth 12))
