@@ -1,5 +1,5 @@
 -- Each call on a machine: paper 01, "Refusal numbers" with its order, and "The slow run"; paper 02, No. 4, adds the acknowledge, and
--- No. 5 a number. The code's enum of calls says no more than the papers do, so the definitions are on that enum: "An access has a
+-- No. 5 number 13. The code's enum of calls says no more than the papers do, so the definitions are on that enum: "An access has a
 -- 32-bit address and a size in bytes." "Script records are such calls, a malformed one a refused call".
 pub mod Laws
 use Prim.Native.Nat.{ℕ, _+_, _-_, _%_}
@@ -53,7 +53,7 @@ abbrev pub runsPast : ℕ → ℕ → Found → Bool
 runsPast address size (In w) = ltb (board.end w) (address + size)
 runsPast address size Nowhere = false
 
--- 02, No. 5: "an offset without a register". Each device has the list of its own.
+-- 02, No. 5: "an offset without a register": each device lists those that have one.
 abbrev pub hasRegister : Device → ℕ → Bool
 hasRegister (device.Port n) offset = uart.hasRegister offset
 hasRegister device.TimerUnit offset = gpt.hasRegister offset

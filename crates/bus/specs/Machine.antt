@@ -103,8 +103,8 @@ noPulses = 0 ∷ 0 ∷ 0 ∷ 0 ∷ []
 abbrev pub refused : ℕ → Machine → Answer
 refused number m = answered number false 0 0 0 noPulses m
 
--- "Anything else that a record's kind does not produce is 0, here and in the call's own answer." A call that answers a value or
--- nothing, as a reset does:
+-- "Anything else that a record's kind does not produce is 0, here and in the call's own answer." A call that
+-- produces a value at most, a reset not even that:
 abbrev pub accepted : ℕ → Machine → Answer
 accepted value after = answered notRefused false 0 value 0 noPulses after
 

@@ -37,7 +37,7 @@ replied r after = answered (r .refusal) (r .emitted) (r .byte) (r .value) (r .cy
 abbrev pub portAnswer : uart.Answer → Machine → Answer
 portAnswer a after = answered (a .refusal) (a .emitted) (a .byte) (a .value) 0 noPulses after
 
--- of the number and the value that the timer unit or the controller answered, or a reset,
+-- of a number and a value, those of the timer unit or the controller, or of a reset,
 abbrev pub valueAnswer : (refusal value : ℕ) → Machine → Answer
 valueAnswer refusal value after = answered refusal false 0 value 0 noPulses after
 

@@ -89,8 +89,9 @@ pub refusal-claim :
 refusal-claim {m} {c} {a} h refused =
     (h .answer ∙ laws.answer-refused c (machineOf m) (a .refusal) (number-claim h) refused, h .same refused)
 
--- Of the definitions: what the table accepts, the device accepts too, and it refuses as the table does. So nothing is lost where an
--- accepted call's answer leaves out the device's own number. For an access that is the table's line for 13:
+-- Of the definitions: what the table accepts, the device accepts too, and it refuses as the table does, by the same number. So
+-- nothing is lost where an accepted call's answer leaves out the device's own number. What the table's line for 13 gives, by
+-- whether the offset has a register:
 abbrev pub line13 : (has : Bool) → ℕ
 line13 has = first (noRegister when not has ∷ [])
 

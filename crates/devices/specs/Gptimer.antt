@@ -153,7 +153,7 @@ timer n u = place (u .timers) (n - 1)
 abbrev pub withTimer : ℕ → Timer → Gptimer → Gptimer
 withTimer n t u = withTimers (set (u .timers) (n - 1) t) u
 
--- The offsets with a register: the unit's own, and those of each timer from the timer's.
+-- The offsets with a register: the unit's own, and, from 0x10·n on, those of timer n.
 abbrev pub registers : List ℕ
 registers = SCALER ∷ SRELOAD ∷ CONFIG ∷ []
 
@@ -164,9 +164,9 @@ abbrev pub hasRegister : ℕ → Bool
 hasRegister offset =
     oneOf registers offset || (isTimer (offset / STRIDE) && oneOf timerRegisters (offset % STRIDE))
 
--- 02, No. 5: "Word accesses to an offset without a register get number 13 .. +0x0C of the timer blocks included"; and a device's own
--- call, 01 says, "answers an offset that is no register's, odd ones included, as a word offset without a register is
--- answered." Of timer n, by the offset from the timer's own:
+-- 02, No. 5: "Word accesses to an offset without a register get number 13", "+0x0C of the timer blocks included"; and a device's
+-- own call, 01 says, "answers an offset that is no register's, odd ones included, as a word offset without a register is
+-- answered." Of timer n, by the offset from 0x10·n:
 abbrev pub readTimer : ℕ → ℕ → Gptimer → Answer
 readTimer n offset u =
     cond (eqb offset COUNTER) (accepted (timer n u .counter) u)
@@ -181,7 +181,7 @@ writeTimer n offset value u =
     (cond (eqb offset CONTROL) (accepted 0 (withTimer n (writeControl value (timer n u)) u))
     (refused noRegister u)))
 
--- and of the unit:
+-- Of the unit:
 unfoldable pub read : ℕ → Gptimer → Answer
 read offset u =
     cond (eqb offset SCALER) (accepted (u .scaler) u)

@@ -58,13 +58,6 @@ MASK = 0x40
 abbrev pub EXTENDED : ℕ
 EXTENDED = 0xC0
 
--- The offsets with a register.
-abbrev pub registers : List ℕ
-registers = LEVEL ∷ PENDING ∷ FORCE ∷ CLEAR ∷ MASK ∷ EXTENDED ∷ []
-
-abbrev pub hasRegister : ℕ → Bool
-hasRegister offset = oneOf registers offset
-
 abbrev pub resetState : Irqmp
 resetState = record { level = 0; pending = 0; force = 0; mask = 0; extended = 0 }
 
@@ -86,6 +79,13 @@ unfoldable pub wellFormed : Irqmp → Bool
 wellFormed c =
     within lines1To15 (c .level) && (within lines1To31 (c .pending) && (within lines1To15 (c .force) &&
     (within lines1To31 (c .mask) && mayBeNoted (c .extended))))
+
+-- The offsets with a register.
+abbrev pub registers : List ℕ
+registers = LEVEL ∷ PENDING ∷ FORCE ∷ CLEAR ∷ MASK ∷ EXTENDED ∷ []
+
+abbrev pub hasRegister : ℕ → Bool
+hasRegister offset = oneOf registers offset
 
 -- Level, pending, force and mask store the bits of a word that they keep, and read what is stored. "Ones written to clear clear
 -- pending bits; it reads 0. Extended acknowledge ignores writes." No. 5: "Word accesses to an offset without a register get number

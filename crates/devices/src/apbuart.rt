@@ -222,6 +222,7 @@ impl Apbuart {
         if offset == Self::SCALER {
             return self.write_scaler(value);
         }
+        // Nothing is stored where there is no register.
         Answer::refused(refusal::NO_REGISTER, self)
     }
 

@@ -406,6 +406,7 @@ impl Gptimer {
             self.timers[n - 1] = timer;
             return Answer::accepted(0, self);
         }
+        // Nothing is stored where there is no register.
         Answer::refused(refusal::NO_REGISTER, self)
     }
 

@@ -80,28 +80,35 @@ control-step :
     (a : controller.Answer) (m : Machine) → a .refusal ≡ notRefused → stepped m (ofController a m) ≡ controllerCalled a m
 control-step a m e = quiet-answer (a .value) m (withIrqmp (a .controller) m) refl ∙ controlled a m e
 
--- An access, which a device answers by its offset: at a register what it does is a step, elsewhere it is refused.
+-- An access, which a device answers by its offset: at a register what it does is a step, elsewhere it is refused. Once for every
+-- device, by what comes of its answer in the definition and on the route:
+by-register :
+    {A : Type 0} (P : A → Type 0) (none : A) (has : Bool) (a : A) (m : Machine) (steps calls : A → Answer) →
+    (P a → steps a ≡ calls a) → refused noRegister m ≡ calls none → ByOffset P none has a →
+    cond has (steps a) (refused noRegister m) ≡ calls a
+by-register P none has a m steps calls same refuses h =
+    tested has (λ t. rw t (same (h .there t))) (λ t. rw t (refuses ∙ ap calls (sym (h .lacking t))))
+
 module _ (m : Machine) (has : Bool) where
   port-out :
       (n : ℕ) (a : uart.Answer) → ByOffset port′.Accepted (uart.refused noRegister (portAt n m)) has a →
       cond has (stepped m (ofPort n a m)) (refused noRegister m) ≡ portCalled n a m
-  port-out n a h =
-      tested has (λ t. rw t (called n a m (h .there t)))
-      (λ t. rw t (same-port n noRegister m ∙ ap (λ (x : uart.Answer). portCalled n x m) (sym (h .lacking t))))
+  port-out n a =
+      by-register port′.Accepted _ has a m (λ x. stepped m (ofPort n x m)) (λ x. portCalled n x m) (called n a m)
+      (same-port n noRegister m)
 
   unit-out :
       (a : unit.Answer) → ByOffset unit′.Accepted (gpt.refused noRegister (m .unit)) has a →
       cond has (stepped m (ofTimerUnit a m)) (refused noRegister m) ≡ unitCalled a m
-  unit-out a h =
-      tested has (λ t. rw t (united a m (h .there t)))
-      (λ t. rw t (ap (λ (x : unit.Answer). unitCalled x m) (sym (h .lacking t))))
+  unit-out a =
+      by-register unit′.Accepted _ has a m (λ x. stepped m (ofTimerUnit x m)) (λ x. unitCalled x m) (united a m) refl
 
   controller-out :
       (a : controller.Answer) → ByOffset controller′.Accepted (irq.refused noRegister (m .irqmp)) has a →
       cond has (stepped m (ofController a m)) (refused noRegister m) ≡ controllerCalled a m
-  controller-out a h =
-      tested has (λ t. rw t (control-step a m (h .there t)))
-      (λ t. rw t (ap (λ (x : controller.Answer). controllerCalled x m) (sym (h .lacking t))))
+  controller-out a =
+      by-register controller′.Accepted _ has a m (λ x. stepped m (ofController x m)) (λ x. controllerCalled x m)
+      (control-step a m) refl
 
 module _ (m : Machine) (w : wellFormed m ≡ true) where
   reads-out :

@@ -202,16 +202,16 @@ keeps :
     wellFormed (guarded c a .controller) ≡ wellFormed c
 keeps c a f = tested (wellFormed c) (λ w. rw (w, f w) refl) (λ ill. rw ill ill)
 
-read-left : (offset : ℕ) (c : Irqmp) → readRegister offset c .controller ≡ c
-read-left offset c = search either-left depth 12
+-- A read changes nothing.
+pub read-same : (offset : ℕ) (c : Irqmp) → read offset c .controller ≡ c
+unfolding read
+read-same offset c = search either-left depth 12
   where
-    either-left :
-        (b : Bool) (x y : Answer) → x .controller ≡ c → y .controller ≡ c → cond b x y .controller ≡ c
+    either-left : (b : Bool) (x y : Answer) → x .controller ≡ c → y .controller ≡ c → cond b x y .controller ≡ c
     either-left b x y e f = chosen (λ t (a : Answer). a .controller ≡ c) b x y e f
 
 pub read-keeps : (offset : ℕ) (c : Irqmp) → wellFormed (read offset c .controller) ≡ wellFormed c
-unfolding read
-read-keeps offset c = keeps c (readRegister offset c) (λ w. rw (read-left offset c) w)
+read-keeps offset c = ap wellFormed (read-same offset c)
 
 pub write-keeps : (offset value : ℕ) (c : Irqmp) → wellFormed (write offset value c .controller) ≡ wellFormed c
 unfolding write
@@ -259,7 +259,7 @@ module _ (c : Irqmp) (w : wellFormed c ≡ true) where
   unfolding acknowledge
   acknowledge-accepted = rw w refl
 
--- A refused call changes nothing, and a read never does.
+-- A refused call changes nothing.
 refused-same :
     (c : Irqmp) (a : Answer) → ((Accepted a → ⊥) → a .controller ≡ c) → (Accepted (guarded c a) → ⊥) →
     guarded c a .controller ≡ c
@@ -275,10 +275,6 @@ write-same offset value c =
 pub acknowledge-same : (c : Irqmp) → (Accepted (acknowledge c) → ⊥) → acknowledge c .controller ≡ c
 unfolding acknowledge
 acknowledge-same c = refused-same c (accepted (lineTaken c) (taken (lineTaken c) c)) (λ differs. absurd (differs refl))
-
-pub read-same : (offset : ℕ) (c : Irqmp) → read offset c .controller ≡ c
-unfolding read
-read-same offset c = tested (wellFormed c) (λ w. rw w (read-left offset c)) (λ ill. rw ill refl)
 
 -- No lines leave the controller as it is, and lines that are set one after the other are set at once.
 pub set-none : (c : Irqmp) → setPending 0 c .controller ≡ c

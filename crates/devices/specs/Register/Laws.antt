@@ -12,12 +12,12 @@ module _ {A : Type 0} (P : A → Type 0) (none : A) where
   pub no-register : ByOffset P none false none
   no-register = record { there = λ t. absurd (true≢false (sym t)); lacking = λ e. refl }
 
-  -- at one of it or behind it,
+  -- at a register of the chain, or further along it,
   pub register : (is has : Bool) (x y : A) → P x → ByOffset P none has y → ByOffset P none (is || has) (cond is x y)
   register true has x y p h = record { there = λ t. p; lacking = λ e. absurd (true≢false e) }
   register false has x y p h = h
 
-  -- and in a block of registers, where it is there.
+  -- and in a block of registers, where the block is there.
   pub block : (is has : Bool) (y : A) → ByOffset P none has y → ByOffset P none (is && has) (cond is y none)
   block true has y h = h
   block false has y h = no-register

@@ -9,4 +9,5 @@ pub after-port-spec : {M : Type 1} → statement M
 unfolding gr712rc
 after-port-spec =
     tie.close
-    (tie.spec (λ c. search stays-high) (λ c. search needs) (λ c. search needs) (λ c κs. search needs) (λ c. search rose) (λ c. search not-there) (λ c. search stays-low))
+    (tie.spec (λ c. search stays-high) (λ c. search needs) (λ c. search needs) (λ c κs. search needs)
+    (λ c. search rose) (λ c. search not-there) (λ c. search stays-low))

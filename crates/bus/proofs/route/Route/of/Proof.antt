@@ -8,4 +8,7 @@ pub of-spec : {M : Type 1} → statement M
 unfolding route
 of-spec =
     tie.close
-    (tie.spec (λ c. search needs) (λ c κs. search needs) (λ c. search needs) (λ c κs. search needs) (λ c. search needs) (λ c κs. search needs) (λ c. search needs) (λ c. search needs) (λ c. search needs) (λ c. search needs) (λ c. search needs) (λ c. search leads) (λ c. search leads) (λ c. search leads) (λ c. search leads) (λ c. search leads) (λ c. search leads) (λ c. search leads) (λ c. search leads))
+    (tie.spec (λ c. search needs) (λ c κs. search needs) (λ c. search needs) (λ c κs. search needs)
+    (λ c. search needs) (λ c κs. search needs) (λ c. search needs) (λ c. search needs) (λ c. search needs)
+    (λ c. search needs) (λ c. search needs) (λ c. search leads) (λ c. search leads) (λ c. search leads)
+    (λ c. search leads) (λ c. search leads) (λ c. search leads) (λ c. search leads) (λ c. search leads))

@@ -9,4 +9,8 @@ pub read-spec : {M : Type 1} → statement M
 unfolding read
 read-spec =
     tie.close
-    (tie.spec (λ c. search needs) (λ c κs. search needs) (λ c. search cases depth 12) (λ c. search needs) (λ c κs. search needs) (λ c. search cases depth 12) (λ c κs. search needs) (λ c. search needs) (λ c κs. search needs) (λ c. rw (← c .before .flag .ensures .0) (search cases depth 12)) (λ c. search needs) (λ c κs. search needs) (λ c. search cases depth 12) (λ c κs. search needs) (λ c. search cases depth 12) (λ c κs. search needs) (λ c. search cases depth 12))
+    (tie.spec (λ c. search needs) (λ c κs. search needs) (λ c. search cases depth 12) (λ c. search needs)
+    (λ c κs. search needs) (λ c. search cases depth 12) (λ c κs. search needs) (λ c. search needs)
+    (λ c κs. search needs) (λ c. rw (← c .before .flag .ensures .0) (search cases depth 12)) (λ c. search needs)
+    (λ c κs. search needs) (λ c. search cases depth 12) (λ c κs. search needs) (λ c. search cases depth 12)
+    (λ c κs. search needs) (λ c. search cases depth 12))

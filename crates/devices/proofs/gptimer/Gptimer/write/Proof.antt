@@ -9,4 +9,7 @@ pub write-spec : {M : Type 1} → statement M
 unfolding write
 write-spec =
     tie.close
-    (tie.spec (λ c. search needs) (λ c κs. search needs) (λ c. search cases depth 12) (λ c. search needs) (λ c κs. search needs) (λ c. search cases depth 12) (λ c κs. search needs) (λ c. search cases depth 12) (λ c. search needs) (λ c κs. search needs) (λ c. search cases depth 12) (λ c κs. search needs) (λ c. search cases depth 12) (λ c κs. search needs) (λ c. search cases depth 12))
+    (tie.spec (λ c. search needs) (λ c κs. search needs) (λ c. search cases depth 12) (λ c. search needs)
+    (λ c κs. search needs) (λ c. search cases depth 12) (λ c κs. search needs) (λ c. search cases depth 12)
+    (λ c. search needs) (λ c κs. search needs) (λ c. search cases depth 12) (λ c κs. search needs)
+    (λ c. search cases depth 12) (λ c κs. search needs) (λ c. search cases depth 12))

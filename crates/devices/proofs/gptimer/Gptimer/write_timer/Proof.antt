@@ -7,4 +7,9 @@ use Rattle.devices.proofs.gptimer.Gptimer.write_timer.Tie as tie
 pub write-timer-spec : {M : Type 1} → statement M
 write-timer-spec =
     tie.close
-    (tie.spec (λ c. search needs) (λ c. search needs) (λ c. search needs) (λ c κs. search needs) (λ c. search cases depth 12) (λ c. search needs) (λ c. search needs) (λ c. search needs) (λ c κs. search needs) (λ c. search cases depth 12) (λ c. search needs) (λ c. search needs) (λ c. search needs) (λ c κs. search needs) (λ c. search needs) (λ c. search needs) (λ c. search needs) (λ c κs. search needs) (λ c. rw (← c .before .write-control .ensures) (search cases depth 12)) (λ c κs. search needs) (λ c. search cases depth 12))
+    (tie.spec (λ c. search needs) (λ c. search needs) (λ c. search needs) (λ c κs. search needs)
+    (λ c. search cases depth 12) (λ c. search needs) (λ c. search needs) (λ c. search needs) (λ c κs. search needs)
+    (λ c. search cases depth 12) (λ c. search needs) (λ c. search needs) (λ c. search needs) (λ c κs. search needs)
+    (λ c. search needs) (λ c. search needs) (λ c. search needs) (λ c κs. search needs)
+    (λ c. rw (← c .before .write-control .ensures) (search cases depth 12)) (λ c κs. search needs)
+    (λ c. search cases depth 12))

@@ -9,4 +9,5 @@ pub acknowledge-spec : {M : Type 1} → statement M
 unfolding irq.acknowledge
 acknowledge-spec =
     tie.close
-    (tie.spec (λ c κs. search needs) (λ c κs. search needs) (λ c κs. search needs) (λ c κs. search needs) (λ c κs. search needs) (λ c. search (is-well, acknowledged)) (λ c. search is-ill))
+    (tie.spec (λ c κs. search needs) (λ c κs. search needs) (λ c κs. search needs) (λ c κs. search needs)
+    (λ c κs. search needs) (λ c. search (is-well, acknowledged)) (λ c. search is-ill))

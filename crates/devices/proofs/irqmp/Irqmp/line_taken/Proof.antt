@@ -7,4 +7,5 @@ use Rattle.devices.proofs.irqmp.Irqmp.line_taken.Tie as tie
 pub line-taken-spec : {M : Type 1} → statement M
 line-taken-spec =
     tie.close
-    (tie.spec (λ c κs. search needs) (λ c κs. search needs) (λ c κs. search needs) (λ c κs. search needs) (λ c. (search taken-by, search needs)))
+    (tie.spec (λ c κs. search needs) (λ c κs. search needs) (λ c κs. search needs) (λ c κs. search needs)
+    (λ c. (search taken-by, search needs)))

@@ -7,4 +7,5 @@ use Rattle.devices.proofs.irqmp.Irqmp.reaching.Tie as tie
 pub reaching-spec : {M : Type 1} → statement M
 reaching-spec =
     tie.close
-    (tie.spec (λ c κs. search needs) (λ c κs. search needs) (λ c κs. search needs) (λ c. search reaching-own) (λ c. search reaching-12))
+    (tie.spec (λ c κs. search needs) (λ c κs. search needs) (λ c κs. search needs) (λ c. search reaching-own)
+    (λ c. search reaching-12))

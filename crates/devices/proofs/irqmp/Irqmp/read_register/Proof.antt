@@ -7,4 +7,7 @@ use Rattle.devices.proofs.irqmp.Irqmp.read_register.Tie as tie
 pub read-register-spec : {M : Type 1} → statement M
 read-register-spec =
     tie.close
-    (tie.spec (λ c κs. search needs) (λ c. search cases depth 12) (λ c κs. search needs) (λ c. search cases depth 12) (λ c κs. search needs) (λ c. search cases depth 12) (λ c κs. search needs) (λ c. search cases depth 12) (λ c κs. search needs) (λ c. search cases depth 12) (λ c κs. search needs) (λ c. search cases depth 12) (λ c κs. search needs) (λ c. search cases depth 12))
+    (tie.spec (λ c κs. search needs) (λ c. search cases depth 12) (λ c κs. search needs) (λ c. search cases depth 12)
+    (λ c κs. search needs) (λ c. search cases depth 12) (λ c κs. search needs) (λ c. search cases depth 12)
+    (λ c κs. search needs) (λ c. search cases depth 12) (λ c κs. search needs) (λ c. search cases depth 12)
+    (λ c κs. search needs) (λ c. search cases depth 12))

@@ -7,4 +7,5 @@ use Rattle.devices.proofs.irqmp.Irqmp.take.Tie as tie
 pub take-spec : {M : Type 1} → statement M
 take-spec =
     tie.close
-    (tie.spec (λ c κs. search needs) (λ c κs. search needs) (λ c κs. search needs) (λ c κs. search needs) (λ c κs. search needs) (λ c. search take-forced) (λ c. search take-pending))
+    (tie.spec (λ c κs. search needs) (λ c κs. search needs) (λ c κs. search needs) (λ c κs. search needs)
+    (λ c κs. search needs) (λ c. search take-forced) (λ c. search take-pending))

@@ -9,4 +9,6 @@ pub well-formed-spec : {M : Type 1} → statement M
 unfolding irq.wellFormed
 well-formed-spec =
     tie.close
-    (tie.spec (λ c κs. search needs) (λ c. search answered depth 20) (λ c κs. search needs) (λ c. search answered depth 20) (λ c κs. search needs) (λ c. search answered depth 20) (λ c κs. search needs) (λ c. search answered depth 20) (λ c κs. search needs) (λ c. search answered depth 20))
+    (tie.spec (λ c κs. search needs) (λ c. search answered depth 20) (λ c κs. search needs)
+    (λ c. search answered depth 20) (λ c κs. search needs) (λ c. search answered depth 20) (λ c κs. search needs)
+    (λ c. search answered depth 20) (λ c κs. search needs) (λ c. search answered depth 20))

@@ -7,4 +7,8 @@ use Rattle.devices.proofs.irqmp.Irqmp.write_register.Tie as tie
 pub write-register-spec : {M : Type 1} → statement M
 write-register-spec =
     tie.close
-    (tie.spec (λ c κs. search needs) (λ c. search cases depth 12) (λ c κs. search needs) (λ c. search cases depth 12) (λ c κs. search needs) (λ c. search cases depth 12) (λ c κs. search needs) (λ c κs. search needs) (λ c. rw (← c .before .without .ensures) (search cases depth 12)) (λ c κs. search needs) (λ c. search cases depth 12) (λ c κs. search needs) (λ c. search cases depth 12) (λ c κs. search needs) (λ c. search cases depth 12))
+    (tie.spec (λ c κs. search needs) (λ c. search cases depth 12) (λ c κs. search needs) (λ c. search cases depth 12)
+    (λ c κs. search needs) (λ c. search cases depth 12) (λ c κs. search needs) (λ c κs. search needs)
+    (λ c. rw (← c .before .without .ensures) (search cases depth 12)) (λ c κs. search needs)
+    (λ c. search cases depth 12) (λ c κs. search needs) (λ c. search cases depth 12) (λ c κs. search needs)
+    (λ c. search cases depth 12))
