@@ -372,7 +372,7 @@ impl Gptimer {
         self.write_timer(n, offset % Self::STRIDE, value)
     }
 
-    // A register of timer n, by its offset from the timer's own.
+    // A register of timer n, by its offset from the timer's first, its counter.
     fn read_timer(self, n: usize, offset: u32) -> Answer
         requires { ⌜ (0 < n) × (n ≤ 4) ⌝ }
         ensures { λ r. ⌜ r ≡ gpt.readTimer n offset self ⌝ }
