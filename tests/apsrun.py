@@ -193,17 +193,13 @@ class Walk:
 
     def take(self):
         port, _ = self.draw()
-        for _ in range(self.any.randrange(1, 6)):
-            byte = 0
-            if self.controls[port] & RE and self.queues[port]:
-                byte = self.queues[port].pop(0)
-                self.work_out_level(port)
-            self.say(read(PORTS[port] + DATA), value=byte)
+        takes = self.controls[port] & RE and self.queues[port]
+        self.say(read(PORTS[port] + DATA), value=self.queues[port].pop(0) if takes else 0)
 
     def look(self):
         port, _ = self.draw()
         waiting = len(self.queues[port])
-        self.say(read(PORTS[port] + STATUS), value=0x86 + (waiting > 0) + (waiting << 26))
+        self.say(read(PORTS[port] + STATUS), value=0x80000086 + (waiting > 0) + (waiting << 26))
         self.say(read(PORTS[port] + CONTROL), value=self.controls[port])
         self.say(read(PORTS[port] + SCALER), value=self.scalers[port])
         self.say(read(PRESCALER), value=self.prescaler)
@@ -567,23 +563,23 @@ example(
     (skip(1), entry(cycles=1, pulses=(0, 1, 0, 0))),
 )
 example(
-    "01, 02: STATUS with one byte and with eight, and the ninth",
+    "01: STATUS with one byte and with eight, and the ninth",
     (write(PORTS[0] + CONTROL, 1), WRITTEN),
     (offer(0, 0x41), entry()),
-    (read(PORTS[0] + STATUS), entry(value=0x04000087)),
+    (read(PORTS[0] + STATUS), entry(value=0x84000087)),
     *((offer(0, byte), entry()) for byte in b"BCDEFGH"),
-    (read(PORTS[0] + STATUS), entry(value=0x20000087)),
+    (read(PORTS[0] + STATUS), entry(value=0xA0000087)),
     (offer(0, 0x49), entry(number=8)),
     *((read(PORTS[0] + DATA), entry(value=byte)) for byte in b"ABCDEFGH"),
     (read(PORTS[0] + DATA), entry(value=0)),
 )
 example(
-    "01, 02: CONTROL 5, one byte, DATA read: the level is 0 at once, and 1 again with the next byte",
+    "01: a level that stays until CONTROL is written",
     (write(PORTS[3] + CONTROL, 5), entry()),
     (offer(3, 0x7A), entry(levels=0b001000)),
-    (read(PORTS[3] + DATA), entry(value=0x7A)),
-    (read(PORTS[3] + STATUS), entry(value=0x00000086)),
-    (offer(3, 0x7B), entry(levels=0b001000)),
+    (read(PORTS[3] + DATA), entry(levels=0b001000, value=0x7A)),
+    (read(PORTS[3] + STATUS), entry(levels=0b001000, value=0x80000086)),
+    (write(PORTS[3] + CONTROL, 5), entry()),
 )
 example(
     "01, 02: the five sizes and addresses; 0x80000200 lies in the interrupt controller's window",
@@ -954,7 +950,7 @@ case(
 # 11. 02's accesses without a register. Each word of each window: what it reads at reset, after 0xFFFFFFFF was written to all 64, in
 # order, and the levels by then. Those that are not named read 0, or are refused.
 for name, base, at_reset, written, levels in (
-    *((f"port {p}", base, {0x04: 0x86, 0x08: 0x80000000}, {0x04: 0x86, 0x08: 0xFFFFFFFF, 0x0C: 0xFF}, 1 << p)
+    *((f"port {p}", base, {0x04: 0x80000086, 0x08: 0x80000000}, {0x04: 0x80000086, 0x08: 0xFFFFFFFF, 0x0C: 0xFF}, 1 << p)
       for p, base in enumerate(PORTS)),
     ("the timer unit", UNIT,
      {0x00: 0xFFFF, 0x04: 0xFFFF, 0x08: 0x144, 0x40: 0xFFFF, 0x44: 0xFFFF, 0x48: 0x09},
@@ -991,7 +987,7 @@ FILLED = (
 )
 AS_FILLED = (
     *(pair for p, port in enumerate(PORTS) for pair in (
-        (read(port + STATUS), entry(levels=0x3F, value=0x0C000087)),  # three bytes wait
+        (read(port + STATUS), entry(levels=0x3F, value=0x8C000087)),  # three bytes wait
         (read(port + CONTROL), entry(levels=0x3F, value=0x80000007)),
         (read(port + SCALER), entry(levels=0x3F, value=0x31 + p)),
     )),
@@ -1002,11 +998,8 @@ AS_FILLED = (
         (LEVEL, 0x10), (PENDING, 0x1E0004), (FORCE, 0x8000), (CLEAR, 0), (MASK, 0x200000), (EXTENDED, 21),
     )),
 )
-# Each port's level falls as its third byte is taken.
-BYTES_TAKEN = tuple((read(PORTS[p] + DATA), entry(levels=levels, value=byte + p))
-                    for p, before, after in (
-                        (0, 0x3F, 0x3E), (1, 0x3E, 0x3C), (2, 0x3C, 0x38), (3, 0x38, 0x30), (4, 0x30, 0x20), (5, 0x20, 0x00))
-                    for byte, levels in ((0x41, before), (0x51, before), (0x61, after)))
+BYTES_TAKEN = tuple((read(port + DATA), entry(levels=0x3F, value=byte + p))
+                    for p, port in enumerate(PORTS) for byte in (0x41, 0x51, 0x61))
 
 
 def in_a_filled_machine(what, *pairs):
@@ -1067,123 +1060,6 @@ example(
     (read(TIMER1 + 0x0C), entry(13)),
     (read(TIMER1), entry(value=2)),
 )
-
-# 12. 02's line that falls when the queue drains.
-# STATUS by the number of bytes that wait. Bit 31 is 0, for eight bytes, too.
-STATUSES = 0x00000086, 0x04000087, 0x08000087, 0x0C000087, 0x10000087, 0x14000087, 0x18000087, 0x1C000087, 0x20000087
-for p, port in enumerate(PORTS):
-    for beside in (0, 0x3F ^ 1 << p):  # the levels of the other ports, which TI raises: all 0, or all 1
-        up, down = beside | 1 << p, beside
-        raised = [(write(PORTS[other] + CONTROL, TI), entry(levels=beside & 2 ** (other + 1) - 1))
-                  for other in range(6) if beside >> other & 1]
-        example(
-            f"02: port {p} filled, and read until it is empty, with the other levels at {beside:06b}",
-            *raised,
-            (write(port + CONTROL, RE | RI), entry(levels=down)),
-            (read(port + STATUS), entry(levels=down, value=STATUSES[0])),
-            *(pair for count in range(1, 9) for pair in (
-                (offer(p, 0x40 + count), entry(levels=up)), (read(port + STATUS), entry(levels=up, value=STATUSES[count])))),
-            (offer(p, 0x49), entry(8, levels=up)),
-            *(pair for count in range(1, 8) for pair in (
-                (read(port + DATA), entry(levels=up, value=0x40 + count)),
-                (read(port + STATUS), entry(levels=up, value=STATUSES[8 - count])))),
-            (read(port + DATA), entry(levels=down, value=0x48)),
-            (read(port + STATUS), entry(levels=down, value=STATUSES[0])),
-            (read(port + DATA), entry(levels=down)),
-            (offer(p, 0x4A), entry(levels=up)),
-        )
-    up, line = 1 << p, (2, 12, 12, 12, 12, 12)[p]
-    pending = (0x4, 0x20000, 0x40000, 0x80000, 0x100000, 0x200000)[p]
-    example(
-        f"02: rises of port {p}'s level after drains",
-        (write(port + CONTROL, RE | RI), WRITTEN),
-        (offer(p, 0x41), entry(levels=up)),
-        (read(PENDING), entry(levels=up, value=pending)),
-        (write(CLEAR, pending), entry(levels=up)),
-        (offer(p, 0x42), entry(levels=up)),  # the level stays 1, and so it does where a read leaves a byte
-        (read(port + DATA), entry(levels=up, value=0x41)),
-        (offer(p, 0x43), entry(levels=up)),
-        (read(port + DATA), entry(levels=up, value=0x42)),
-        (read(PENDING), entry(levels=up)),
-        (read(port + DATA), entry(value=0x43)),  # it falls, which sets nothing
-        (read(PENDING), entry()),
-        (offer(p, 0x44), entry(levels=up)),  # and rises
-        (read(PENDING), entry(levels=up, value=pending)),
-        (read(port + DATA), entry(value=0x44)),  # it falls, which clears nothing
-        (read(PENDING), entry(value=pending)),
-        (read(port + DATA), entry()),
-        (offer(p, 0x45), entry(levels=up)),  # a line that is pending already
-        (read(PENDING), entry(levels=up, value=pending)),
-        (write(MASK, pending), entry(levels=up)),
-        (ACKNOWLEDGE, entry(levels=up, value=line)),
-        (ACKNOWLEDGE, entry(levels=up)),
-        (read(port + DATA), entry(value=0x45)),
-        (ACKNOWLEDGE, entry()),
-        (offer(p, 0x46), entry(levels=up)),  # an interrupt for each byte that is read before the next one comes
-        (ACKNOWLEDGE, entry(levels=up, value=line)),
-        (read(port + DATA), entry(value=0x46)),
-        (ACKNOWLEDGE, entry()),
-        *registers(mask=pending, **({"extended": 16 + p} if p else {})),
-    )
-    example(
-        f"02: TI holds port {p}'s level through a drain",
-        (write(port + CONTROL, RE | RI | TI), entry(levels=up)),
-        (write(CLEAR, pending), entry(levels=up)),
-        (offer(p, 0x41), entry(levels=up)),
-        (read(port + DATA), entry(levels=up, value=0x41)),
-        (read(port + STATUS), entry(levels=up, value=STATUSES[0])),
-        (offer(p, 0x42), entry(levels=up)),
-        (write(port + CONTROL, RE | RI), entry(levels=up)),  # the byte holds it now
-        (read(PENDING), entry(levels=up)),  # no rise in all this
-        (read(port + DATA), entry(value=0x42)),
-        (offer(p, 0x43), entry(levels=up)),
-        (read(PENDING), entry(levels=up, value=pending)),
-        (write(CLEAR, pending), entry(levels=up)),
-        (write(port + CONTROL, RE | TI), entry(levels=up)),  # without RI, TI alone
-        (read(port + DATA), entry(levels=up, value=0x43)),
-        (offer(p, 0x44), entry(levels=up)),
-        (read(PENDING), entry(levels=up)),
-        (write(port + CONTROL, RE), entry()),  # neither: a byte waits
-        (read(port + DATA), entry(value=0x44)),
-    )
-    example(
-        f"02: reads of port {p}'s DATA with RE 0 leave the level as the write of CONTROL left it",
-        (write(port + CONTROL, RE | RI), WRITTEN),
-        *((offer(p, byte), entry(levels=up)) for byte in (0x41, 0x42)),
-        (write(CLEAR, pending), entry(levels=up)),
-        (write(port + CONTROL, RI), entry(levels=up)),
-        *2 * [(read(port + DATA), entry(levels=up))],
-        (read(port + STATUS), entry(levels=up, value=STATUSES[2])),
-        (write(port + CONTROL, 0), WRITTEN),
-        *2 * [(read(port + DATA), WRITTEN)],
-        (write(port + CONTROL, RE), WRITTEN),
-        (read(port + DATA), entry(value=0x41)),  # worked out with RI 0
-        (read(PENDING), WRITTEN),
-        (write(port + CONTROL, RI), entry(levels=up)),  # a rise: a byte waits
-        (read(port + DATA), entry(levels=up)),
-        (read(PENDING), entry(levels=up, value=pending)),
-        (write(port + CONTROL, RE | RI), entry(levels=up)),
-        (read(port + DATA), entry(value=0x42)),
-        (read(port + STATUS), entry(value=STATUSES[0])),
-    )
-    refused = [(read(port + offset, size), number) for number, size, offset in (
-        (5, 1, 0), (5, 1, 1), (5, 1, 2), (5, 1, 3), (5, 2, 0), (5, 2, 2), (4, 2, 1), (4, 2, 3), (4, 4, 1), (4, 4, 2), (4, 4, 3),
-        (1, 3, 0), (1, 0, 0), (1, 8, 0), (13, 4, 0x10))]
-    refused += [(altered(read(port + DATA), at, 1), 10) for at in BLANKS[1]]
-    example(
-        f"02: refused reads of port {p}'s DATA take no byte and leave the level",
-        (write(port + CONTROL, RE | RI), WRITTEN),
-        (offer(p, 0x41), entry(levels=up)),
-        *((record, entry(number, levels=up)) for record, number in refused),
-        (read(port + STATUS), entry(levels=up, value=STATUSES[1])),
-        (read(port + DATA), entry(value=0x41)),
-        *((record, entry(number)) for record, number in refused),
-        (read(PENDING), entry(value=pending)),
-    )
-for bytes_left, levels in ((0, 0), (1, 0b000100)):
-    case(f"02: a read of DATA that leaves {bytes_left} bytes, and a tail",
-         script(write(PORTS[2] + CONTROL, RE | RI), *(1 + bytes_left) * [offer(2, 0x41)], read(PORTS[2] + DATA), TAIL),
-         log(WRITTEN, *(1 + bytes_left) * [entry(levels=0b000100)], entry(levels=levels, value=0x41), entry(10, levels=levels)))
 
 # Running them.
 

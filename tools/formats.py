@@ -5,7 +5,6 @@ import struct
 
 # What the board has.
 PORTS, TIMERS, QUEUE_DEPTH = 6, 4, 8
-STATUS_COUNT = 26  # STATUS has the number of bytes that wait in this bit and those above it
 
 # The files' first bytes: a mark of three, and a version.
 SCRIPT_HEADER, LOG_HEADER = b"APS\x00\x01", b"APL\x00\x01"
@@ -290,9 +289,7 @@ def register_bits(name, value):
 
 
 def value_note(kind, register, value):
-    """What the value of a read of a register, or of an acknowledge, says: its named bits, in STATUS the count too, or the line that
-    it numbers."""
+    """What the value of a read of a register, or of an acknowledge, says: its named bits, or the line that it numbers."""
     if kind == "acknowledge" or register == "irqmp.extended":
         return f"line {LINES[value]}" if value in LINES else "no line"
-    count = f", count {value >> STATUS_COUNT}" if register.endswith(".STATUS") else ""
-    return register_bits(register, value) + count
+    return register_bits(register, value)

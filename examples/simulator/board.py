@@ -19,7 +19,7 @@ NO_PORT, RECEIVER_OFF, QUEUE_FULL = 6, 7, 8
 DATA, STATUS, CONTROL, SCALER = 0x00, 0x04, 0x08, 0x0C
 RE, TE, RI, TI = 1 << 0, 1 << 1, 1 << 2, 1 << 3
 ALWAYS_SET = 1 << 31
-STATUS_FIXED = 0x00000086
+STATUS_FIXED = 0x80000086
 DATA_READY = 1 << 0
 
 # Section 6: the timer unit's registers, where timers 1 to 4 begin, the registers of each, and the bits of its control.
@@ -72,13 +72,7 @@ class SerialPort:
         return None
 
     def read_data(self):
-        return self.take_byte() if self.control & RE and self.queue else 0
-
-    def take_byte(self):
-        """The oldest one. The level is worked out from the queue without it, so that the last byte lowers it."""
-        byte = self.queue.pop(0)
-        self.work_out_level()
-        return byte
+        return self.queue.pop(0) if self.control & RE and self.queue else 0
 
     def status(self):
         return STATUS_FIXED + (DATA_READY if self.queue else 0) + self.STATUS_COUNT * len(self.queue)
@@ -100,10 +94,7 @@ class SerialPort:
         before = self.level
         self.level = int(bool(self.control & RI and self.queue or self.control & TI))
         if self.level > before:
-            self.rise()
-
-    def rise(self):
-        self.controller.set_pending(self.line)
+            self.controller.set_pending(self.line)
 
 
 def ends_in(steps, first, period):

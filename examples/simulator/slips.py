@@ -1,7 +1,7 @@
 """Boards with one slip each, to see how a failure is shown. SLIPS has them by name: the class, and what is wrong."""
 
-from board import CARRIER, CH, CONTROL, EN, IP, NARROW, NO_REGISTER, NO_WINDOW, PAST_END, PLAIN_LINES, PORT_BASES, RE
-from board import STATUS, TI, TIMER_BASES, TIMER_UNIT_BASE, highest
+from board import CARRIER, CH, EN, IP, NARROW, NO_REGISTER, NO_WINDOW, PAST_END, PLAIN_LINES, PORT_BASES, RE, STATUS
+from board import TIMER_BASES, TIMER_UNIT_BASE, highest
 from board import Board, InterruptController, SerialPort, Timer, TimerUnit
 from bridge import Answer
 
@@ -81,7 +81,7 @@ class IpClearedBy0(Board):
 class DataReadDrops(Board):
     class Port(SerialPort):
         def read_data(self):
-            byte = self.take_byte() if self.queue else 0
+            byte = self.queue.pop(0) if self.queue else 0
             return byte if self.control & RE else 0
 
 
@@ -109,40 +109,12 @@ class CutAdvance(Board):
 # Further ones.
 
 
-@slip("level-stuck", "a DATA read leaves the level, so that it stays 1 when the last byte is read")
-class LevelStuck(Board):
-    class Port(SerialPort):
-        def take_byte(self):
-            return self.queue.pop(0)  # to work the level out before this is the same slip: the byte still holds it
-
-
-@slip("level-falls-late", "the level falls at a DATA read that finds the queue empty, in place of at the last byte")
-class LevelFallsLate(Board):
+@slip("level-falls", "the level falls as soon as the last byte is read")
+class LevelFalls(Board):
     class Port(SerialPort):
         def read_data(self):
-            if not self.queue:
-                self.work_out_level()
-            return super().read_data()
-
-        def take_byte(self):
-            return self.queue.pop(0)
-
-
-@slip("level-falls-early", "a DATA read that takes a byte lowers the level even if bytes are left, unless TI is 1")
-class LevelFallsEarly(Board):
-    class Port(SerialPort):
-        def take_byte(self):
-            self.level = int(bool(self.control & TI))
-            return self.queue.pop(0)
-
-
-@slip("level-without-ti", "the DATA read that takes the last byte lowers the level even if TI is 1")
-class LevelWithoutTi(Board):
-    class Port(SerialPort):
-        def take_byte(self):
-            byte = super().take_byte()
-            if not self.queue:
-                self.level = 0
+            byte = super().read_data()
+            self.work_out_level()
             return byte
 
 
@@ -163,13 +135,6 @@ class Bit31(Board):
 class StatusCount(Board):
     class Port(SerialPort):
         STATUS_COUNT = 1 << 25
-
-
-@slip("status-bit-31", "bit 31 of a port's STATUS is always set")
-class StatusBit31(Board):
-    class Port(SerialPort):
-        def status(self):
-            return super().status() | 1 << 31
 
 
 @slip("past-end", "an access that runs past its window's end is refused with 2, in place of 3")
@@ -320,21 +285,6 @@ class LevelRaisesAgain(Board):
                 self.controller.set_pending(self.line)
 
 
-@slip("rise-once", "the first byte after the queue was read empty sets no line, unless CONTROL was written in between")
-class RiseOnce(Board):
-    class Port(SerialPort):
-        armed = False  # CONTROL was written since the last rise. A reset leaves it: the next rise needs a write anyway
-
-        def write(self, offset, value):
-            self.armed = self.armed or offset == CONTROL
-            return super().write(offset, value)
-
-        def rise(self):
-            if self.armed:
-                super().rise()
-            self.armed = False
-
-
 @slip("fall-clears-line", "a port's level that falls clears the line's pending bit")
 class FallClearsLine(Board):
     class Port(SerialPort):
@@ -343,16 +293,6 @@ class FallClearsLine(Board):
             super().work_out_level()
             if self.level < before:
                 self.controller.clear(1 << self.line)
-
-
-@slip("fall-sets-line", "a port's level that falls sets the line pending too")
-class FallSetsLine(Board):
-    class Port(SerialPort):
-        def work_out_level(self):
-            before = self.level
-            super().work_out_level()
-            if self.level < before:
-                self.controller.set_pending(self.line)
 
 
 @slip("masked-not-kept", "a line that is set while its mask bit is 0 is lost")

@@ -14,11 +14,8 @@ INTERRUPTS = [
     "pulse: line pending already",
     "rise: line without its mask bit",
     "rise: line pending already",
-    "rise: by a byte, after a drain",
     "level stays 1: line not pending",
-    "level stays 1 at a DATA read: line not pending",
     "level falls: line pending",
-    "level falls at a DATA read: line pending",
     "reset: a line pending",
     *(f"{word} written: a bit that is not kept" for word in KEPT),
     "pending written: a line set",
@@ -38,19 +35,6 @@ INTERRUPTS = [
     "extended line taken: 12 waiting itself",
     "extended line taken: 13, 14 or 15 waiting",
 ]
-# What changes a port's level, by the record's kind.
-CAUSES = {"offer": "a byte", "write": "CONTROL", "read": "a DATA read", "reset": "a reset"}
-LINES_AND_BYTES = [
-    "line rises by a byte",
-    "line rises by CONTROL",
-    "line falls by a DATA read",
-    "line falls by CONTROL",
-    "line falls by a reset",
-    "DATA read leaves bytes, level 1",
-    "DATA read takes the last byte, level 1",
-    "DATA read takes none, RE 0",
-    "emits",
-]
 
 # All that there is to meet, part by part.
 TO_MEET = {
@@ -61,7 +45,8 @@ TO_MEET = {
     "refusal numbers": [str(number) for number in formats.NUMBERS],
     "windows' edges": [f"{window}: {edge}" for window in formats.WINDOWS for edge in EDGES],
     "queue depths": [f"port{p}: {depth}" for p in range(formats.PORTS) for depth in range(formats.QUEUE_DEPTH + 1)],
-    "lines and bytes": [f"port{p}: {what}" for p in range(formats.PORTS) for what in LINES_AND_BYTES],
+    "lines and bytes": [f"port{p}: {what}" for p in range(formats.PORTS)
+                        for what in ("line rises by a byte", "line rises by CONTROL", "line falls", "emits")],
     "waits": [f"{wait}: {length}" for wait in ("advance", "skip") for length in LENGTHS]
     + ["skip: ends with a pulse", "skip: ends at its limit"],
     "pulses": [f"timer{n}: {what}" for n in range(1, formats.TIMERS + 1) for what in ("one", "several")],
@@ -79,9 +64,8 @@ EXPLAINED = {
     "windows' edges": "accesses of any size that begin in the 4 bytes before the window, those of its first and last word that are "
                       "accepted or refused with 13, those refused with 3, and those that begin in the 4 bytes behind it",
     "queue depths": "how often an accepted byte, a read or a reset brought the port's receive queue to each depth",
-    "lines and bytes": "records after which a port's line level is another than before, by their kind; DATA reads that take a byte "
-                       "and leave the level at 1, those that take the last byte apart; DATA reads that take none of the bytes that "
-                       "wait, for RE is 0; and records by which the port emits a byte",
+    "lines and bytes": "records after which a port's line level is another than before, by a byte or a write of CONTROL where it "
+                       "rises, and records by which it emits a byte",
     "waits": "advances and skips by the cycles that they passed, and how skips of one cycle or more ended",
     "pulses": "advances and skips with one pulse of a timer, and with several",
     "lines taken": "acknowledges by the line that they took. For an extended one the log has 12; which it was follows from the "
@@ -114,7 +98,7 @@ class Coverage:
         if refused:
             numbers[str(refused)] += 1
             return
-        queues, before = Queues(self.met["queue depths"], self.met["lines and bytes"]), 0
+        queues, before = Queues(self.met["queue depths"]), 0
         controller = Controller(self.met["lines taken"], self.met["interrupts"])
         log.read(formats.HEADER_LENGTH)
         begin, length = formats.HEADER_LENGTH, formats.RECORD_LENGTH
@@ -136,15 +120,15 @@ class Coverage:
             elif name in ("advance", "skip"):
                 self.wait(name, values[0], cycles, pulses)
             if number == 0:
-                taken = queues.step(name, values, levels)
-                controller.step(name, values, taken, before, levels, value, pulses)
+                queues.step(name, values)
+                controller.step(name, values, before, levels, value, pulses)
             before = levels
 
     def lines(self, name, before, levels):
+        rises = "rises by a byte" if name == "offer" else "rises by CONTROL"
         for port in range(formats.PORTS):
             if (before ^ levels) >> port & 1:
-                changes = "rises" if levels >> port & 1 else "falls"
-                self.met["lines and bytes"][f"port{port}: line {changes} by {CAUSES.get(name)}"] += 1
+                self.met["lines and bytes"][f"port{port}: line {rises if levels >> port & 1 else 'falls'}"] += 1
 
     def wait(self, name, span, cycles, pulses):
         waits = self.met["waits"]
@@ -200,8 +184,8 @@ LINE_OF = {device: line for line, device in formats.SETS.items()}
 class Queues:
     """How many bytes wait in each port, by the calls that were accepted."""
 
-    def __init__(self, depths, met):
-        self.depths, self.met = depths, met
+    def __init__(self, depths):
+        self.depths = depths
         self.waiting, self.receiving = [0] * formats.PORTS, [False] * formats.PORTS
 
     def reach(self, port, depth):
@@ -209,30 +193,19 @@ class Queues:
             self.waiting[port] = depth
             self.depths[f"port{port}: {depth}"] += 1
 
-    def step(self, name, values, levels):
-        """Whether the call took a byte."""
-        if name == "read" and values[1] in DATA:
-            return self.read(DATA[values[1]], levels)
+    def step(self, name, values):
         if name == "offer":
             self.reach(values[0], self.waiting[values[0]] + 1)
+        elif name == "read" and values[1] in DATA:
+            port = DATA[values[1]]
+            if self.receiving[port] and self.waiting[port]:
+                self.reach(port, self.waiting[port] - 1)
         elif name == "write" and values[1] in CONTROL:
             self.receiving[CONTROL[values[1]]] = values[2] & 1 == 1
         elif name == "reset":
             for port in range(formats.PORTS):
                 self.reach(port, 0)
             self.receiving = [False] * formats.PORTS
-        return False
-
-    def read(self, port, levels):
-        if not self.waiting[port]:
-            return False
-        if not self.receiving[port]:
-            self.met[f"port{port}: DATA read takes none, RE 0"] += 1
-            return False
-        self.reach(port, self.waiting[port] - 1)
-        if levels >> port & 1:
-            self.met[f"port{port}: DATA read {'leaves bytes' if self.waiting[port] else 'takes the last byte'}, level 1"] += 1
-        return True
 
 
 class Controller:
@@ -244,21 +217,18 @@ class Controller:
 
     def reset(self):
         self.level = self.pending = self.force = self.mask = self.noted = 0
-        self.drained = set()  # the ports whose level fell by a DATA read, CONTROL not written since
 
     def count(self, name, holds):
         if holds:
             self.met[name] += 1
 
-    def step(self, name, values, taken, before, levels, value, pulses):
+    def step(self, name, values, before, levels, value, pulses):
         if name == "write" and values[1] in IRQMP:
             self.write(IRQMP[values[1]], values[2])
         elif name == "write" and values[1] in CONTROL:
-            self.worked_out(CONTROL[values[1]], before, levels, name)
+            self.worked_out(CONTROL[values[1]], before, levels)
         elif name == "offer":
-            self.worked_out(values[0], before, levels, name)
-        elif taken:
-            self.worked_out(DATA[values[1]], before, levels, name)
+            self.worked_out(values[0], before, levels)
         elif name in ("advance", "skip"):
             for timer, count in enumerate(pulses, 1):
                 if count:
@@ -275,19 +245,13 @@ class Controller:
         self.count(f"{what}: line pending already", self.pending >> line & 1)
         self.pending |= 1 << line
 
-    def worked_out(self, port, before, levels, name):
-        """The level of a port was worked out, at a call of this name."""
-        pending, by = self.pending >> LINE_OF[f"port{port}"] & 1, " at a DATA read" if name == "read" else ""
-        rises, falls = levels & ~before & 1 << port, before & ~levels & 1 << port
-        self.count("rise: by a byte, after a drain", rises and name == "offer" and port in self.drained)
-        self.count(f"level stays 1{by}: line not pending", levels & before & 1 << port and not pending)
-        self.count(f"level falls{by}: line pending", falls and pending)
-        if rises:
+    def worked_out(self, port, before, levels):
+        """The level of a port was worked out."""
+        pending = self.pending >> LINE_OF[f"port{port}"] & 1
+        if levels & ~before & 1 << port:
             self.set(f"port{port}", "rise")
-        if rises or name == "write":
-            self.drained.discard(port)
-        elif falls and name == "read":
-            self.drained.add(port)
+        self.count("level stays 1: line not pending", levels & before & 1 << port and not pending)
+        self.count("level falls: line pending", before & ~levels & 1 << port and pending)
 
     def write(self, register, value):
         if register == "clear":

@@ -158,17 +158,13 @@ class Draw:
 
 
 def cut(script):
-    """The script with three in four of its advances cut into spans that add up to them, and one at least that can be cut into spans
-    other than 0, where there is one."""
+    """The script with three in four of its advances, and one at least, cut into spans that add up to them."""
     draw = Draw(hashlib.sha256(script).digest())
     parts = records(script)
-    spans = {place: values[0] for place, (name, values) in enumerate(map(formats.decode, parts)) if name == "advance"}
-    chosen = {place for place in spans if draw.below(4)}
-    longer = [place for place in spans if spans[place] > 1] or list(spans)
-    if chosen.isdisjoint(longer):
-        chosen.add(longer[draw.below(len(longer))])
+    advances = [place for place, record in enumerate(parts) if formats.decode(record)[0] == "advance"]
+    chosen = {place for place in advances if draw.below(4)} or {advances[draw.below(len(advances))]}
     for place in sorted(chosen):
-        span = spans[place]
+        (span,) = formats.decode(parts[place])[1]
         places = [draw.place(span) for _ in range(1 + draw.below(3))]
         if span > 1 and not any(0 < each < span for each in places):  # only spans of 0 were cut off
             places.append(1 + draw.below(span - 1))

@@ -4,7 +4,6 @@
 -- Assumes nothing.
 use Rattle.std.specs.Prelude.{ℕ, zero, suc, ◌<◌, ◌≡◌, refl, Bool, true, false, cond, not, ◌&&◌, List, [], ◌∷◌, ◌==◌, nat_le, length, get_or}
 use Rattle.std.proofs.Common.{sym, ap, ◌∙◌, arith}
-use Rattle.devices.specs.Word.{bit}
 use Rattle.devices.specs.Refusal.{not_refused, ill_formed, no_register}
 use Rattle.devices.specs.Register.Laws.{ByOffset}
 use Rattle.devices.specs.Apbuart as uart
@@ -21,7 +20,7 @@ use Rattle.bus.specs.Board.{gr712rc, holds, all_apart, all_there}
 use Rattle.bus.specs.Board.Laws.{one_window}
 use Rattle.bus.specs.Machine as bus
 use Rattle.bus.specs.Machine.{well_formed}
-use Rattle.bus.specs.Time.{rises, advance, of_span}
+use Rattle.bus.specs.Time.{advance, of_span}
 use Rattle.bus.specs.Time.Laws.{skip_advance, skip_unit}
 use Rattle.bus.specs.Call.{◌when◌, first, byte_for, table, refusal, window_of, subject}
 use Rattle.bus.specs.Call.Laws as laws
@@ -134,17 +133,6 @@ controller_claim m offset value lines w =
       controller'.acknowledge_accepted m.irqmp sound,
       controller'.set_accepted m.irqmp sound lines,
     )
-
--- 02, No. 6: "with RI set and TI clear, the first byte after a drain is again a rise". Let a port's level be what the rule gives, as
--- it always is from reset (`level_claim` of the scripts). Then an accepted byte makes it rise exactly if RI is set, TI is clear
--- and no byte waited, and no read makes it rise. What a rise sets is in Time.antt (`step`).
-pub rise_claim :
-    (p : uart.Port) (offset byte : ℕ) → p.level ≡ uart.line_level p →
-    ((uart.offer byte p).refusal ≡ not_refused →
-    rises p.level (uart.offer byte p).port.level ≡
-    (bit uart.RI p.control && not (bit uart.TI p.control) && not (uart.not_empty p))) ×
-    (rises p.level (uart.read offset p).port.level ≡ false)
-rise_claim p offset byte settled = (port.offer_raises p settled byte, port.read_raises p settled offset)
 
 -- Of the devices' lists of registers, by one computed test: which of the first 0x100 offsets have one.
 abbrev pub offsets_with : (has : ℕ → Bool) (from count : ℕ) → List ℕ

@@ -1,7 +1,7 @@
 -- The serial port (APBUART): paper 01, section "Serial port", with what "Refusal numbers" says of a device's own call, and
--- paper 02: No. 5, which replaces what 01 says of an offset without a register, and No. 6, by which the line falls when the queue
--- drains. One definition a rule, under the sentence that it states, in that section's order; what several rules use stands before
--- them: answers, CONTROL's bits, what is ill formed, and the line's level.
+-- paper 02, No. 5, which replaces what 01 says of an offset without a register. One definition a rule, under the sentence that
+-- it states, in that section's order; what several rules use stands before them: answers, CONTROL's bits, what is ill formed,
+-- and the line's level.
 pub mod View
 pub mod Call
 pub mod Laws
@@ -78,8 +78,8 @@ with_level level p = record { control = p.control; scaler = p.scaler; queue = p.
 abbrev pub not_empty : Port → Bool
 not_empty p = nat_lt 0 (length p.queue)
 
--- "Line level: worked out anew on a CONTROL write and on an accepted byte"; 01 goes on "only", but 02, No. 6: "A port's level must
--- also be worked out anew at each DATA read that takes a byte." "It is 1 if (RI and queue not empty) or TI."
+-- "Line level: worked out anew on a CONTROL write and on an accepted byte only. It is 1 if (RI and queue not empty) or
+-- TI."
 abbrev pub line_level : Port → Bool
 line_level p = (bit RI p.control && not_empty p) || bit TI p.control
 
@@ -98,12 +98,11 @@ abbrev pub younger : List ℕ → List ℕ
 younger [] = []
 younger (byte ∷ bytes) = bytes
 
--- "0x00 DATA. Read: 0 if RE is 0 or the queue is empty; else the oldest byte, which leaves." Only a read that takes it works
--- the level out.
+-- "0x00 DATA. Read: 0 if RE is 0 or the queue is empty; else the oldest byte, which leaves."
 abbrev pub read_data : Port → Answer
 read_data p =
     cond (bit RE p.control && not_empty p)
-    (accepted (oldest p.queue) (update_level (with_queue (younger p.queue) p)))
+    (accepted (oldest p.queue) (with_queue (younger p.queue) p))
     (accepted 0 p)
 
 -- "Write: the low 8 bits are emitted at once if TE is 1, else dropped. A drop is no refusal."
@@ -114,9 +113,9 @@ abbrev pub STATUS : ℕ
 STATUS = 0x04
 
 -- "0x04 STATUS. Writes are ignored. Read: 0x80000086, plus 1 if the queue isn't empty, plus the queue's length times
--- 2^26." 02, No. 6: "STATUS bit 31 becomes 0, because in the manual it is the top bit of the receive count."
+-- 2^26."
 abbrev pub read_status : Port → Answer
-read_status p = accepted (0x00000086 + cond (not_empty p) 1 0 + length p.queue * 2 ^ 26) p
+read_status p = accepted (0x80000086 + cond (not_empty p) 1 0 + length p.queue * 2 ^ 26) p
 
 abbrev pub CONTROL : ℕ
 CONTROL = 0x08

@@ -13,7 +13,7 @@ use crate::refusal;
 pub struct Apbuart {
     pub control: u32,
     pub scaler: u8,
-    // The interrupt line's level, as the last CONTROL write, accepted byte, DATA read that took a byte or reset left it.
+    // The interrupt line's level, as the last CONTROL write, accepted byte or reset left it.
     pub level: bool,
     pub queue: Fifo,
 }
@@ -99,11 +99,11 @@ impl Apbuart {
     // CONTROL, FIFOs available: always 1.
     pub const FA: u32 = 0x8000_0000;
 
-    // STATUS while no byte waits: the transmitter, which emits at once, is idle.
-    pub const STATUS_IDLE: u32 = 0x0000_0086;
+    // STATUS while no byte waits: FIFOs available, and the transmitter, which emits at once, idle.
+    pub const STATUS_IDLE: u32 = 0x8000_0086;
     // STATUS, data ready.
     pub const DR: u32 = 0x0000_0001;
-    // STATUS, one received byte: the count stands in bits 31 to 26.
+    // STATUS, one received byte: the count stands from bit 26 up.
     pub const RCNT: u32 = 0x0400_0000;
 
     pub const RESET_CONTROL: u32 = 0x8000_0000;
@@ -232,7 +232,7 @@ impl Apbuart {
         if self.byte_waits(self.control / Self::RE % 2 == 1) {
             let mut port = self;
             port.queue = self.queue.pop();
-            Answer::accepted(self.queue.oldest() as u32, port.update_level())
+            Answer::accepted(self.queue.oldest() as u32, port)
         } else {
             Answer::accepted(0, self)
         }
@@ -248,7 +248,7 @@ impl Apbuart {
         }
     }
 
-    // A queue within its depth keeps the count within its six bits, so that the sum fits.
+    // A queue within its depth keeps the count below bit 31, so that the sum fits.
     fn read_status(self) -> Answer
         requires { length (queued self.queue) ≤ uart.depth }
         ensures { Conforms self (uart.read_status (port_of self)) result }
@@ -314,7 +314,7 @@ impl Apbuart {
         }
     }
 
-    // Whether a byte waits for what is enabled: for the receiver a DATA read takes it, for its interrupt it holds the level at 1.
+    // Whether a byte waits for what is enabled: for the receiver a DATA read takes it, for its interrupt it raises the line.
     fn byte_waits(self, enabled: bool) -> bool
         ensures { result ≡ (enabled && uart.not_empty (port_of self)) }
     {

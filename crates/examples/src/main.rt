@@ -13,10 +13,10 @@
 //     on a machine:  r SIZE ADDRESS, w SIZE ADDRESS VALUE, o PORT BYTE, a CYCLES, s LIMIT, x, k, m
 //
 // r reads, w writes, o offers a byte, a advances, s skips, x resets, p has lines become pending, k acknowledges, m stands for a
-// malformed script record. Some lines do what no call can, so that refusal 9 is run too, and a port whose level is not what its
-// rule gives: `c WORD`, on a machine `c PORT WORD`, puts the word into a port's CONTROL and leaves its level, `q COUNT` has a
-// port's queue claim so many bytes, `l WORD` and `e WORD` put the word into the controller's level, also on a machine, and into
-// its extended acknowledge. An empty line is passed over, and any other is answered with a question mark.
+// malformed script record. Some lines do what no call can, so that refusal 9 is run too: `c WORD`, on a machine `c PORT WORD`,
+// puts the word into a port's CONTROL, `q COUNT` has a port's queue claim so many bytes, `l WORD` and `e WORD` put the word into
+// the controller's level, also on a machine, and into its extended acknowledge. An empty line is passed over, and any other is
+// answered with a question mark.
 mod controller;
 mod cycles;
 mod line;

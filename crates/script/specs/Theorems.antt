@@ -4,15 +4,13 @@
 -- `room_claim`, and in the bus `port_claim` and those after it, are about the definitions. The words of the claims are in
 -- Steps.antt and Pieces.antt, and in Cuts.antt of the bus. Assumes nothing.
 use Rattle.std.specs.Prelude.{ℕ, suc, ◌≤◌, min, ◌≡◌, refl, true, false, List, ◌++◌, length, take, drop}
-use Rattle.std.proofs.Common.{sym, ap, subst, ◌∙◌, arith, ne_eqb}
+use Rattle.std.proofs.Common.{sym, ap, ◌∙◌, arith, ne_eqb}
 use Rattle.devices.specs.Refusal.{not_refused, ill_formed}
-use Rattle.devices.specs.Apbuart.{line_level}
 use Rattle.bus.specs.Board.{gr712rc}
 use Rattle.bus.specs.Machine as bus
 use Rattle.bus.specs.Machine.{well_formed}
-use Rattle.bus.specs.Call.Laws.{AllSettled, reset_settled}
 use Rattle.bus.specs.SlowRun.{answers, after}
-use Rattle.bus.specs.SlowRun.Laws.{after_keeps, after_settled}
+use Rattle.bus.specs.SlowRun.Laws.{after_keeps}
 use Rattle.bus.specs.Cuts.{Item, uncut_calls, cut_calls, Rejoined}
 use Rattle.bus.specs.Cuts.Laws.{slow_cut}
 use Rattle.bus.specs.View.{machine_of}
@@ -36,7 +34,7 @@ use Rattle.script.specs.declared.format.Reason.{Reason}
 use Rattle.script.specs.declared.format.Verdict.TheVariants.{Accepted, Refused}
 use Rattle.script.specs.declared.run.Ran.{Ran}
 pub use Rattle.bus.specs.Theorems.{skip_claim, well_claim, ill_claim, number_claim, accepted_claim, refusal_claim}
-pub use Rattle.bus.specs.Theorems.{port_claim, unit_claim, controller_claim, rise_claim, register_claim, board_claim, window_claim}
+pub use Rattle.bus.specs.Theorems.{port_claim, unit_claim, controller_claim, register_claim, board_claim, window_claim}
 
 -- Demand 3, whole. "This is a single claim about the list": what is seen of its calls, script records among them, are
 -- the slow run's answers, and the last machine is the slow run's; whatever the calls, refused and malformed ones
@@ -47,16 +45,6 @@ pub list_claim :
 list_claim {m} t =
     chain_slow Step (λ (cs : List Call). cs) Agree (well_formed (machine_of m)) none (λ xs ys rs ss e f. agree_append e f)
     (λ m n cs seen w s. step_agrees s) refl t
-
--- 02, No. 6: "Guests that never rewrite CONTROL now see a stuck line." None is stuck. From reset, whatever the calls and however
--- they are put into scripts and these into runs, each port's level is what the rule works out from its CONTROL and its queue.
-pub level_claim :
-    {m end : Machine} {steps : List (List Call)} {seen : List Seen} → machine_of m ≡ bus.reset_state gr712rc →
-    Chain Step m steps seen end → (n : ℕ) →
-    (let p = bus.port_at n (machine_of end) in p.level ≡ line_level p)
-level_claim {steps} start t =
-    let end = (list_claim t).1 ∙ ap (after (all_calls steps)) start in
-    subst AllSettled (sym end) (after_settled (all_calls steps) (bus.reset_state gr712rc) (reset_settled gr712rc))
 
 -- Demand 3: time may be cut anywhere. Replace any advances of a list, script records among them, each by spans that add up
 -- to its own (an advance of 0 also by none), put any of the calls into scripts, cut those as you like, and begin with an

@@ -58,9 +58,9 @@ fn decode(address: u32, size: u8) -> Result<(Device, u32), Refusal> {
     }
 }
 
-#[derive(Clone, Debug, PartialEq, Eq)]
+#[derive(Clone, Debug)]
 pub struct Board {
-    pub uarts: [Uart; UARTS],
+    uarts: [Uart; UARTS],
     pub timer_unit: TimerUnit,
     pub irqmp: Irqmp,
 }
@@ -123,13 +123,12 @@ impl Board {
     }
 
     /// Lets something be done to a port. "a line level rising from 0 to 1 sets the port's line", whatever
-    /// made it rise; its fall leaves the line.
+    /// made it rise.
     fn with_uart<T>(&mut self, port: usize, act: impl FnOnce(&mut Uart) -> T) -> T {
         let uart = &mut self.uarts[port];
-        let before = uart.level;
+        let before = uart.level();
         let answer = act(uart);
-        // Most calls change no level, so that is tested first; a rise is a change from 0.
-        if uart.level != before && !before {
+        if uart.level() && !before {
             self.irqmp.raise(bit(UART_LINES[port]));
         }
         answer
@@ -137,7 +136,7 @@ impl Board {
 
     /// The levels of the ports' interrupt lines, bit p for port p.
     pub fn levels(&self) -> u8 {
-        let set = |(port, uart): (usize, &Uart)| u8::from(uart.level) << port;
+        let set = |(port, uart): (usize, &Uart)| u8::from(uart.level()) << port;
         self.uarts.iter().enumerate().map(set).sum()
     }
 }

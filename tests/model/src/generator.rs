@@ -105,9 +105,8 @@ impl Family {
                  a wait and more than 2^64 in a few, hundreds of waits"
             }
             Family::Interrupts => {
-                "the interrupt controller: lines raised by CONTROL writes, by offered bytes, the first ones \
-                 after a drain too, and by pulses, masked, cleared and acknowledged; at most 100,000 cycles \
-                 in all, as in short"
+                "the interrupt controller: lines raised by CONTROL writes, by offered bytes and by pulses, \
+                 masked, cleared and acknowledged; at most 100,000 cycles in all, as in short"
             }
             Family::Priorities => {
                 "the interrupt controller by itself: pending and forced lines, up to all of them, at both \
@@ -201,9 +200,6 @@ const BLANKS: [&[usize]; 8] = [
 
 /// Bytes that a port's queue holds.
 const QUEUE: u64 = 8;
-
-/// The bits of a port's CONTROL that are stored, but for bit 31, and change nothing.
-const WITHOUT_EFFECT: u32 = 0x7FFF_FFF0;
 
 /// A port of a `Stream`.
 struct Stream {
@@ -921,7 +917,7 @@ impl Generator {
         let port = self.random.pick(&[0, 0, 0, 3, 3, 3, 1, 2, 4, 5]);
         let base = PORTS[port];
         let run = if self.random.one_in(4) { 12 } else { 1 + self.random.below(3) };
-        match self.random.below(19) {
+        match self.random.below(18) {
             0..=2 => {
                 let mut value = self.random.below(16) as u32;
                 value |= self.random.pick(&[0, uart::RE, uart::RE]);
@@ -931,8 +927,17 @@ impl Generator {
                     self.read(base + uart::CONTROL);
                 }
             }
-            3..=5 => self.offer(port, run),
-            6 | 7 => self.take(port, run),
+            3..=5 => {
+                for _ in 0..run {
+                    let byte = self.random.byte();
+                    self.push(Call::Offer { port: port as u8, byte });
+                }
+            }
+            6 | 7 => {
+                for _ in 0..run {
+                    self.read(base + uart::DATA);
+                }
+            }
             8 => self.read(base + uart::STATUS),
             9 => {
                 let value = if self.random.one_in(4) { 0xFFFF_FF00 } else { self.random.word() };
@@ -958,8 +963,8 @@ impl Generator {
                 self.push(Call::Offer { port, byte });
             }
             13 => self.read_port(base),
-            14 | 15 => self.drain(port, run),
-            16 => self.switch_receiver_off(port, run),
+            14 => self.drain_raised(port, run),
+            15 => self.switch_receiver_off(port, run),
             _ => self.see_lines(),
         }
     }
@@ -968,7 +973,10 @@ impl Generator {
     fn switch_receiver_off(&mut self, port: usize, run: u64) {
         let control = self.random.below(8) as u32 * uart::TE;
         self.write(PORTS[port] + uart::CONTROL, control | uart::RE);
-        self.offer(port, run);
+        for _ in 0..run {
+            let byte = self.random.byte();
+            self.push(Call::Offer { port: port as u8, byte });
+        }
         self.write(PORTS[port] + uart::CONTROL, control);
         for _ in 0..self.random.below(4) {
             match self.random.below(3) {
@@ -979,66 +987,38 @@ impl Generator {
         }
         if self.random.one_in(2) {
             self.write(PORTS[port] + uart::CONTROL, control | uart::RE);
-            self.take(port, run);
-        }
-    }
-
-    /// A port with RI set, and now and then TI, fills and drains, once or twice. The level falls with the
-    /// last byte, unless TI holds it, and the next byte is a rise; with one byte left, none is. The lines are
-    /// looked at in between, and something is done that must leave the level.
-    fn drain(&mut self, port: usize, run: u64) {
-        let base = PORTS[port];
-        let others = self.random.pick(&[0, uart::TE, uart::TE, uart::TI, WITHOUT_EFFECT]);
-        self.write(base + uart::CONTROL, uart::RE | uart::RI | others);
-        for _ in 0..1 + self.random.below(2) {
-            self.offer(port, run);
-            self.see_lines();
-            let waiting = run.min(QUEUE);
-            let taken = self.random.pick(&[waiting, waiting, waiting + 1, waiting - 1]);
-            self.take(port, taken);
-            match self.random.below(9) {
-                0 => self.write(base + uart::DATA, 0x55),
-                1 => self.write(base + uart::STATUS, 0xFFFF_FFFF),
-                2 => self.write(base + uart::SCALER, 1),
-                3 => {
-                    let address = self.word_without_register(base);
-                    self.access(4, address);
-                }
-                4 => self.pass(),
-                5 => self.push(Call::Offer { port: 6, byte: 1 }),
-                6 => self.read(base + uart::STATUS),
-                7 => self.take_in_vain(port),
-                _ => {}
+            for _ in 0..run {
+                self.read(PORTS[port] + uart::DATA);
             }
-            self.read(CONTROLLER + irqmp::PENDING);
         }
-        let few = 1 + self.random.below(2);
-        self.offer(port, few);
-        self.read(CONTROLLER + irqmp::PENDING);
-        self.read(base + uart::STATUS);
     }
 
-    /// Among the bytes are more than usual of 0, as the empty queue reads.
-    fn offer(&mut self, port: usize, count: u64) {
-        for _ in 0..count {
-            let any = self.random.byte();
-            let byte = self.random.pick(&[any, any, any, any, any, any, 0, 0xFF]);
+    /// Takes all received bytes of a port whose line is raised, which leaves the level, and then
+    /// does something that must leave it too.
+    fn drain_raised(&mut self, port: usize, run: u64) {
+        let base = PORTS[port];
+        self.write(base + uart::CONTROL, uart::RE | uart::TE | uart::RI);
+        for byte in 0..run as u8 {
             self.push(Call::Offer { port: port as u8, byte });
         }
-    }
-
-    /// Takes received bytes, if so many wait.
-    fn take(&mut self, port: usize, count: u64) {
-        for _ in 0..count {
-            self.read(PORTS[port] + uart::DATA);
+        for _ in 0..8 {
+            self.read(base + uart::DATA);
         }
-    }
-
-    /// A read of DATA, or of a part of it, that is refused.
-    fn take_in_vain(&mut self, port: usize) {
-        let (size, more) =
-            self.random.pick(&[(1, 0), (1, 3), (2, 0), (2, 1), (2, 2), (4, 1), (4, 2), (4, 3)]);
-        self.push(Call::Read { size, address: PORTS[port] + uart::DATA + more });
+        match self.random.below(6) {
+            0 => self.write(base + uart::DATA, 0x55),
+            1 => self.write(base + uart::STATUS, 0xFFFF_FFFF),
+            2 => self.write(base + uart::SCALER, 1),
+            3 => {
+                let address = self.word_without_register(base);
+                self.access(4, address);
+            }
+            4 => self.pass(),
+            _ => self.push(Call::Offer { port: 6, byte: 1 }),
+        }
+        self.read_port(base);
+        if self.random.one_in(2) {
+            self.see_lines();
+        }
     }
 
     fn read_port(&mut self, base: u32) {
@@ -1047,25 +1027,19 @@ impl Generator {
         }
     }
 
-    /// Reads every register, and empties the receive queues; then a byte comes to some of the drained ports.
+    /// Reads every register, and empties the receive queues.
     fn read_everything(&mut self) {
         self.read_timers();
         self.read_controller();
-        let mut drained = Vec::new();
         for port in [0, 1, 2, 3, 4, 5] {
             self.read_port(PORTS[port]);
             if port == 0 || port == 3 || self.random.one_in(4) {
                 self.write(PORTS[port] + uart::CONTROL, uart::RE | uart::RI);
-                self.take(port, QUEUE + 1);
+                for _ in 0..9 {
+                    self.read(PORTS[port] + uart::DATA);
+                }
                 self.read_port(PORTS[port]);
-                drained.push(port);
             }
-        }
-        self.read(CONTROLLER + irqmp::PENDING);
-        self.write(CONTROLLER + irqmp::CLEAR, u32::MAX);
-        for port in drained {
-            let count = self.random.below(3);
-            self.offer(port, count);
         }
         self.read(CONTROLLER + irqmp::PENDING);
     }
@@ -1320,42 +1294,31 @@ impl Generator {
         }
     }
 
-    /// A port's level goes up by the first byte, stays while bytes come and go, and goes down with the last
-    /// one, or when CONTROL is written. Without RI, or with TI, bytes do not move it; and without RE no byte
-    /// comes or goes.
+    /// A port's level goes up by a byte, and stays while bytes come and go; it goes down when CONTROL is
+    /// written with none waiting.
     fn raise_by_bytes(&mut self) {
         let port = self.random.below(6) as usize;
         let base = PORTS[port];
-        let mut control = self.random.pick(&[uart::RI, uart::RI, uart::RI, uart::RI | uart::TI, uart::TI, 0]);
-        control |= self.random.pick(&[0, 0, uart::TE, WITHOUT_EFFECT]);
-        self.write(base + uart::CONTROL, control | uart::RE);
-        for _ in 0..2 + self.random.below(6) {
-            match self.random.below(12) {
-                0..=3 => {
-                    let count = self.random.pick(&[1, 1, 2, 9]);
-                    self.offer(port, count);
+        let control = self.random.pick(&[uart::RE | uart::RI, uart::RE | uart::RI, uart::RE]);
+        for _ in 0..2 + self.random.below(5) {
+            match self.random.below(8) {
+                0..=2 => {
+                    let byte = self.random.byte();
+                    self.push(Call::Offer { port: port as u8, byte });
                 }
-                4..=8 => {
-                    let count = self.random.pick(&[1, 1, 2, 9]);
-                    self.take(port, count);
+                3 | 4 => {
+                    for _ in 0..self.random.pick(&[1, 2, 9]) {
+                        self.read(base + uart::DATA);
+                    }
                 }
-                9 => match self.random.below(4) {
-                    0 => self.write(base + uart::DATA, 0x55),
-                    1 => self.read(base + uart::STATUS),
-                    _ => self.take_in_vain(port),
-                },
-                10 => {
-                    self.write(base + uart::CONTROL, control);
-                    self.take(port, 1);
-                    self.offer(port, 1);
-                    self.write(base + uart::CONTROL, control | uart::RE);
-                }
+                5 => self.write(base + uart::DATA, 0x55),
                 _ => {
                     self.write(base + uart::CONTROL, uart::RE);
-                    let count = self.random.pick(&[0, 9]);
-                    self.take(port, count);
-                    self.write(base + uart::CONTROL, control | uart::RE);
-                    self.offer(port, 1);
+                    for _ in 0..self.random.pick(&[0, 9]) {
+                        self.read(base + uart::DATA);
+                    }
+                    self.write(base + uart::CONTROL, control);
+                    self.push(Call::Offer { port: port as u8, byte: 1 });
                 }
             }
             if !self.random.one_in(3) {
@@ -1412,7 +1375,9 @@ impl Generator {
             self.stream_step(&mut streams[index]);
         }
         for stream in streams {
-            self.take(stream.port, QUEUE + 1);
+            for _ in 0..=QUEUE {
+                self.read(PORTS[stream.port] + uart::DATA);
+            }
             self.read_port(PORTS[stream.port]);
         }
     }
@@ -1441,8 +1406,7 @@ impl Generator {
 
     fn write_stream_control(&mut self, stream: &mut Stream) {
         let transmitter = if stream.echo { uart::TE } else { self.random.pick(&[0, uart::TE]) };
-        let (receive, both) = (uart::RI, uart::RI | uart::TI);
-        let interrupts = self.random.pick(&[0, receive, receive, receive, receive, uart::TI, both]);
+        let interrupts = self.random.pick(&[0, uart::RI, uart::RI, uart::TI, uart::RI | uart::TI]);
         stream.control = uart::RE | transmitter | interrupts;
         self.write(PORTS[stream.port] + uart::CONTROL, stream.control);
     }
@@ -1491,12 +1455,8 @@ impl Generator {
     fn stream_aside(&mut self, stream: &mut Stream) {
         let base = PORTS[stream.port];
         let run = 1 + self.random.below(4);
-        match self.random.below(10) {
-            0 | 1 => self.read(base + uart::STATUS),
-            2 | 9 => {
-                self.read(CONTROLLER + irqmp::PENDING);
-                self.write(CONTROLLER + irqmp::CLEAR, u32::MAX);
-            }
+        match self.random.below(9) {
+            0..=2 => self.read(base + uart::STATUS),
             3 => self.read(base + uart::CONTROL),
             4 | 5 => {
                 for _ in 0..run {
@@ -1544,10 +1504,10 @@ impl Generator {
         if !self.random.one_in(3) {
             self.put_in_use(base);
         }
-        // The level of a port falls when its bytes are taken, unless TI holds it.
-        if let Some(port) = PORTS.iter().position(|&other| other == base) {
-            if self.random.one_in(4) {
-                self.take(port, QUEUE);
+        // The level of a port stays when its bytes are taken.
+        if PORTS.contains(&base) && self.random.one_in(4) {
+            for _ in 0..QUEUE {
+                self.read(base + uart::DATA);
             }
         }
         for _ in 0..1 + self.random.below(8) {
@@ -1597,10 +1557,8 @@ impl Generator {
                 self.access(size, address + more);
             }
         }
-        let word = self.word_without_register(base);
-        let short = [(1, word), (2, word), (2, word + 1), (4, word + 1)];
-        let past = [(2, 1), (4, 1), (4, 2), (4, 3)].map(|(size, fit)| (size, base + WINDOW - fit));
-        for (size, address) in short.into_iter().chain(past) {
+        for (size, fit) in [(2, 1), (4, 1), (4, 2), (4, 3)] {
+            let address = base + WINDOW - fit;
             self.push(Call::Write { size, address, value });
             self.push(Call::Read { size, address });
         }
@@ -1642,8 +1600,10 @@ impl Generator {
                 self.write(base + uart::CONTROL, uart::RE | uart::TE | uart::RI | others);
                 let value = self.random.word();
                 self.write(base + uart::SCALER, value);
-                let count = 1 + self.random.below(QUEUE);
-                self.offer(port, count);
+                for _ in 0..1 + self.random.below(QUEUE) {
+                    let byte = self.random.byte();
+                    self.push(Call::Offer { port: port as u8, byte });
+                }
             }
         }
     }

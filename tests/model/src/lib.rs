@@ -1,8 +1,7 @@
 //! An independent test model of one GR712RC board: six APBUARTs, one GPTIMER unit, one IRQMP, their bus
 //! windows, and the script runner. Written from the scope paper (01) with the later requests 02, No. 3
-//! to No. 6, its sources and the list of readings; quotations in comments are sentences of 01, about what
-//! counts down, of No. 3, about interrupts, of No. 4, about offsets without a register, of No. 5, and about
-//! a level that falls when bytes are read, of No. 6.
+//! to No. 5, its sources and the list of readings; quotations in comments are sentences of 01, about what
+//! counts down, of No. 3, about interrupts, of No. 4, and about offsets without a register, of No. 5.
 //!
 //! The program holds one machine that starts at reset and changes it by accepted calls only, so no
 //! state of it is ever ill formed and number 9 cannot arise.

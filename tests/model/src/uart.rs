@@ -14,9 +14,8 @@ pub const RI: u32 = 1 << 2;
 pub const TI: u32 = 1 << 3;
 const FA: u32 = 1 << 31;
 
-/// STATUS with an empty receive FIFO: TH, TE and TS. There is no FA: bit 31 "is the top bit of the receive
-/// count" (02, No. 6), which 8 bytes do not reach.
-const STATUS_EMPTY: u32 = 0x0000_0086;
+/// STATUS with an empty receive FIFO: FA, TH, TE and TS.
+const STATUS_EMPTY: u32 = 0x8000_0086;
 const STATUS_DR: u32 = 1;
 const STATUS_RCNT_SHIFT: u32 = 26;
 
@@ -50,27 +49,18 @@ pub struct Uart {
     fifo: [u8; FIFO_SIZE],
     head: usize,
     count: usize,
-    /// Level of the interrupt line. Stored, because it is worked out at certain events only. From reset it
-    /// is always what its rule says; a port with another level is no less well formed, and keeps it until
-    /// the next such event.
-    pub level: bool,
+    /// Level of the interrupt line. Stored, because it is worked out at certain events only.
+    level: bool,
 }
-
-/// "Two machines are equal when their registers, queued bytes oldest first, and line levels are equal":
-/// wherever the ring starts.
-impl PartialEq for Uart {
-    fn eq(&self, other: &Uart) -> bool {
-        (self.control, self.scaler, self.level) == (other.control, other.scaler, other.level)
-            && self.queued().eq(other.queued())
-    }
-}
-
-impl Eq for Uart {}
 
 impl Uart {
     /// "CONTROL 0x80000000, SCALER 0, empty queue, level 0"
     pub const RESET: Uart =
         Uart { control: FA, scaler: 0, fifo: [0; FIFO_SIZE], head: 0, count: 0, level: false };
+
+    pub fn level(&self) -> bool {
+        self.level
+    }
 
     /// Reads the register at an offset.
     pub fn read(&mut self, offset: u32) -> Result<u32, Refusal> {
@@ -115,8 +105,8 @@ impl Uart {
         Ok(())
     }
 
-    /// "0 if RE is 0 or the queue is empty; else the oldest byte, which leaves". Only the read that takes a
-    /// byte works the level out.
+    /// "0 if RE is 0 or the queue is empty; else the oldest byte, which leaves". The level stays as
+    /// it was.
     fn take_received(&mut self) -> u32 {
         if self.control & RE == 0 || self.count == 0 {
             return 0;
@@ -124,19 +114,12 @@ impl Uart {
         let byte = self.fifo[self.head];
         self.head = (self.head + 1) % FIFO_SIZE;
         self.count -= 1;
-        self.update_level();
         u32::from(byte)
     }
 
-    /// The received bytes, the oldest first.
-    fn queued(&self) -> impl Iterator<Item = u8> + '_ {
-        (0..self.count).map(|place| self.fifo[(self.head + place) % FIFO_SIZE])
-    }
-
-    /// "worked out anew on a CONTROL write and on an accepted byte", and it "must also be worked out anew at
-    /// each DATA read that takes a byte" (02, No. 6). "It is 1 if (RI and queue not empty) or TI."
+    /// "worked out anew on a CONTROL write and on an accepted byte only. It is 1 if (RI and queue
+    /// not empty) or TI."
     fn update_level(&mut self) {
-        // Without branches, which queues that fill and drain make hard to predict.
-        self.level = (self.control & RI != 0) & (self.count > 0) | (self.control & TI != 0);
+        self.level = (self.control & RI != 0 && self.count > 0) || self.control & TI != 0;
     }
 }

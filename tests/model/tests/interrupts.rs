@@ -1,11 +1,8 @@
 //! The interrupt controller of 02, No. 4 and what raises its lines: each rule, and the readings of its
 //! sentences, through the script interface.
 
-mod common;
-
-use common::{entries, log_of, offer, read, script_of, write, PORTS, PORT_LINES, UNIT};
 use model::random::Random;
-use model::script::{Call, Mode, ENTRY_LENGTH, LOG_HEADER};
+use model::script::{run, Call, Mode, ENTRY_LENGTH, LOG_HEADER, SCRIPT_HEADER};
 
 const LEVEL: u32 = 0x8000_0200;
 const PENDING: u32 = 0x8000_0204;
@@ -15,10 +12,38 @@ const MASK: u32 = 0x8000_0240;
 const EXTENDED: u32 = 0x8000_02C0;
 const REGISTERS: [u32; 6] = [LEVEL, PENDING, FORCE, CLEAR, MASK, EXTENDED];
 
+const UNIT: u32 = 0x8000_0300;
+const PORTS: [u32; 6] = [0x8000_0100, 0x8010_0100, 0x8010_0200, 0x8010_0300, 0x8010_0400, 0x8010_0500];
 const CONTROL: u32 = 8;
 
 const ALL: u32 = u32::MAX;
 const ACKNOWLEDGE: Call = Call::Acknowledge;
+
+fn read(address: u32) -> Call {
+    Call::Read { size: 4, address }
+}
+
+fn write(address: u32, value: u32) -> Call {
+    Call::Write { size: 4, address, value }
+}
+
+fn offer(port: usize, byte: u8) -> Call {
+    Call::Offer { port: port as u8, byte }
+}
+
+/// Runs a script from reset and returns its log records: by arithmetic and, with the same log, by single
+/// cycles.
+fn entries(calls: &[Call]) -> Vec<[u8; ENTRY_LENGTH]> {
+    let mut script = SCRIPT_HEADER.to_vec();
+    calls.iter().for_each(|call| script.extend(call.encode()));
+    let [log, slow] = [Mode::Arithmetic, Mode::SingleCycle].map(|mode| {
+        let mut log = Vec::new();
+        run(&script[..], &mut log, mode).unwrap();
+        log
+    });
+    assert_eq!(log, slow, "{calls:X?}");
+    log[LOG_HEADER.len()..].as_chunks().0.to_vec()
+}
 
 /// The values of a script's reads and acknowledges. No record is refused.
 fn values(calls: &[Call]) -> Vec<u32> {
@@ -276,7 +301,7 @@ fn what_an_acknowledge_answers() {
 /// "2 for port 0, 16+p for ports 1 to 5"
 #[test]
 fn lines_of_ports() {
-    for (port, line) in PORT_LINES.into_iter().enumerate() {
+    for (port, line) in [2, 17, 18, 19, 20, 21].into_iter().enumerate() {
         let control = PORTS[port] + CONTROL;
         let rise = bits(&[line]);
         let see = [read(PENDING), write(CLEAR, ALL)];
@@ -294,6 +319,10 @@ fn lines_of_ports() {
             &[rise, 0, 0],
         );
         check(&[&[write(control, 5), offer(port, 1)], &see, &[offer(port, 2)], &see], &[rise, 0]);
+        // Nor is it one after a drain, for the level stays 1 until CONTROL is written.
+        let drained = [write(control, 5), offer(port, 1), read(PORTS[port])];
+        check(&[&drained, &see, &[offer(port, 2)], &see], &[1, rise, 0]);
+        check(&[&drained, &see, &[write(control, 5), offer(port, 2)], &see], &[1, rise, rise]);
         // A fall does not clear the line, and the next rise shows once the line was cleared.
         check(&[&[write(control, 8), write(control, 0)], &see], &[rise]);
         let again =
@@ -306,63 +335,6 @@ fn lines_of_ports() {
         // What is pending already stays.
         check(&[&[write(PENDING, ALL), write(control, 8)], &see], &[0xFFFF_FFFE]);
         check(&[&[write(PENDING, 0x100), write(control, 8)], &see], &[0x100 | rise]);
-    }
-}
-
-/// 02, No. 6: "with RI set and TI clear, the first byte after a drain is again a rise."
-#[test]
-fn lines_of_ports_that_drain() {
-    for (port, line) in PORT_LINES.into_iter().enumerate() {
-        let (data, control) = (PORTS[port], PORTS[port] + CONTROL);
-        let rise = bits(&[line]);
-        let see = [read(PENDING), write(CLEAR, ALL)];
-        let (one, two) = ([offer(port, 1)], [offer(port, 1), offer(port, 2)]);
-        // With RI: the first byte, and the first one after the last was taken, as often as that comes.
-        let start = [write(control, 5)];
-        check(&[&start, &one, &[read(data)], &see, &one, &see], &[1, rise, rise]);
-        check(&[&start, &[&one[..], &[read(data)], &see].concat().repeat(3)], &[1, rise, 1, rise, 1, rise]);
-        // Not the second byte, nor one that comes while bytes are left, nor the read that leaves them.
-        let left = [&start[..], &two, &see, &[read(data)], &see].concat();
-        check(&[&left, &one, &see], &[rise, 1, 0, 0]);
-        // The last one taken, the next is again a rise, and the one behind it is not.
-        check(&[&left, &[read(data)], &see, &one, &see, &one, &see], &[rise, 1, 0, 2, 0, rise, 0]);
-        // A read of the empty queue changes nothing, before or after.
-        check(&[&start, &[read(data)], &see, &one, &[read(data), read(data)], &see], &[0, 0, 1, 0, rise]);
-        // With TI too the level stays through the drain: one rise, by the CONTROL write.
-        for held in [9, 13] {
-            let calls = [&[write(control, held)][..], &see, &two, &[read(data); 3], &one, &see].concat();
-            check(&[&calls], &[rise, 1, 2, 0, 0]);
-        }
-        // Without RI or TI nothing rises.
-        check(&[&[write(control, 1)], &one, &[read(data)], &one, &see], &[1, 0]);
-        // TI cleared while RI holds the level, which then falls with the last byte.
-        let calls = [&[write(control, 13)][..], &one, &see, &[write(control, 5)], &see, &[read(data)], &one];
-        check(&[&calls.concat(), &see], &[rise, 0, 1, rise]);
-        // Bytes kept with RE off hold the level, for no read takes them.
-        let kept = [&start[..], &one, &see, &[write(control, 4), read(data), write(control, 5)], &one, &see];
-        check(&[&kept.concat(), &[read(data), read(data)], &one, &see], &[rise, 0, 0, 1, 1, rise]);
-        // A fall clears no line, neither the port's own nor another.
-        check(&[&start, &one, &[read(data), read(PENDING)]], &[1, rise]);
-        check(&[&start, &one, &[write(PENDING, ALL), read(data), read(PENDING)]], &[1, 0xFFFF_FFFE]);
-        // Acknowledged before the drain or after it, the line is pending again with the next byte only.
-        let taken = if line == 2 { 2 } else { 12 };
-        let masked = [write(MASK, ALL), write(control, 5)];
-        check(
-            &[&masked, &one, &[ACKNOWLEDGE, ACKNOWLEDGE, read(data), ACKNOWLEDGE], &one, &[ACKNOWLEDGE; 2]],
-            &[taken, 0, 1, 0, taken, 0],
-        );
-        check(
-            &[&masked, &one, &[read(data), ACKNOWLEDGE, ACKNOWLEDGE], &one, &[ACKNOWLEDGE; 2]],
-            &[1, taken, 0, taken, 0],
-        );
-        // Not acknowledged, two rises leave one pending bit.
-        check(&[&masked, &one, &[read(data)], &one, &[ACKNOWLEDGE; 2]], &[1, taken, 0]);
-        // Other ports feel nothing of it: each keeps its byte and its level, and so rises no more.
-        let others = |call: fn(usize) -> Call| (0..6).filter(|&other| other != port).map(call);
-        let busy: Vec<Call> =
-            others(|other| write(PORTS[other] + CONTROL, 5)).chain(others(|other| offer(other, 9))).collect();
-        let more: Vec<Call> = others(|other| offer(other, 9)).collect();
-        check(&[&busy, &start, &one, &[read(data)], &see[1..], &more, &see, &one, &see], &[1, 0, rise]);
     }
 }
 
@@ -469,12 +441,14 @@ fn malformed_acknowledges() {
     let start = controller(0, bits(&[7]), 0, ALL);
     for index in 1..16 {
         for value in [1, 0x80, 7] {
-            let mut script = script_of(&start);
+            let mut script = SCRIPT_HEADER.to_vec();
+            start.iter().for_each(|call| script.extend(call.encode()));
             let mut record = [0; 16];
             (record[0], record[index]) = (7, value);
             script.extend(record);
             script.extend(ACKNOWLEDGE.encode());
-            let log = log_of(&script[..], Mode::Arithmetic);
+            let mut log = Vec::new();
+            run(&script[..], &mut log, Mode::Arithmetic).unwrap();
             let (malformed, taken) = log[LOG_HEADER.len() + 4 * ENTRY_LENGTH..].split_at(ENTRY_LENGTH);
             assert_eq!(malformed, [&[10][..], &[0; 47]].concat(), "byte {index}");
             assert_eq!(taken, [&[0, 0, 0, 0, 0, 0, 0, 7][..], &[0; 40]].concat(), "byte {index}");

@@ -10,7 +10,7 @@ use Rattle.devices.specs.Cases.{chosen, tested}
 use Rattle.devices.specs.Refusal.{not_refused, receiver_off, queue_full, ill_formed}
 use Rattle.devices.specs.Apbuart as uart
 use Rattle.devices.specs.Apbuart.{Port}
-use Rattle.devices.specs.Apbuart.Laws.{Settled, Keeps, read_keeps, write_keeps, offer_keeps}
+use Rattle.devices.specs.Apbuart.Laws.{read_keeps, write_keeps, offer_keeps}
 use Rattle.devices.specs.Gptimer as gpt
 use Rattle.devices.specs.Irqmp as irq
 use Rattle.devices.specs.Irqmp.Laws as controller'
@@ -28,7 +28,6 @@ use Rattle.bus.specs.Time.Laws.{quiet_answer, of_unit, advance_unit, skip_unit}
 use Rattle.bus.specs.Call as call
 use Rattle.bus.specs.Call.{Rule, first, Subject, byte_for, other, table, refusal, window_of, subject}
 use Rattle.bus.specs.Call.{read_device, write_device, reach, execute, answer}
-use Rattle.bus.specs.declared.board.Board.{Board}
 use Rattle.bus.specs.declared.board.Device.{Device}
 use Rattle.bus.specs.declared.board.Device.TheVariants as device
 use Rattle.bus.specs.declared.board.Found.{Found}
@@ -36,12 +35,12 @@ use Rattle.bus.specs.declared.board.Found.TheVariants.{In, Nowhere}
 use Rattle.bus.specs.declared.machine.Call.{Call}
 use Rattle.bus.specs.declared.machine.Call.TheVariants.{Read, Write, Offer, Advance, Skip, Reset, Acknowledge, Malformed}
 
--- What a call does is one of these: a step of a port, which neither makes nor repairs an ill-formed port and leaves a settled level
--- settled (`Keeps`); an access of the timer unit; what the controller answers, which neither makes nor repairs an ill-formed
--- controller; a span of time; a reset.
+-- What a call does is one of these: a step of a port, which neither makes nor repairs an ill-formed port; an access of the timer
+-- unit; what the controller answers, which neither makes nor repairs an ill-formed controller; a span of time; a reset.
 module _
     (P : Answer → Type 0) (m : Machine)
-    (ports : (n : ℕ) (a : uart.Answer) → Keeps (port_at n m) a → P (stepped m (of_port n a m)))
+    (ports :
+    (n : ℕ) (a : uart.Answer) → uart.well_formed a.port ≡ uart.well_formed (port_at n m) → P (stepped m (of_port n a m)))
     (units : (value : ℕ) (u : Gptimer) → P (accepted value (with_unit u m)))
     (controllers :
     (value : ℕ) (c : Irqmp) → irq.well_formed c ≡ irq.well_formed m.irqmp → P (accepted value (with_irqmp c m)))
@@ -215,7 +214,7 @@ execute_well c m w =
     let set : (lines : ℕ) → irq.well_formed (irq.set_pending lines m.irqmp).controller ≡ true =
     λ lines. controller'.set_keeps lines m.irqmp ∙ well_irqmp m w in
     execute_all (λ a. well_formed a.machine ≡ true) m
-    (λ n a kept. rw (well_set m.ports n a.port ports (kept.well ∙ well_at m.ports n ports), set _) refl)
+    (λ n a kept. rw (well_set m.ports n a.port ports (kept ∙ well_at m.ports n ports), set _) refl)
     (λ value u. w) (λ value d kept. rw (ports, kept, well_irqmp m w) refl) (λ e. rw (ports, set _) refl) refl c
 
 pub answer_keeps : (c : Call) (m : Machine) → well_formed (answer c m).machine ≡ well_formed m
@@ -226,35 +225,6 @@ answer_keeps c m =
     chosen (λ b (a : Answer). well_formed a.machine ≡ well_formed m) (eqb (refusal (subject c m) m) not_refused) _ _
     (execute_well c m w ∙ sym w) refl)
     (λ ill. rw (ill_refused c m ill) refl)
-
--- A machine's levels are settled where each port's is. At reset they are, and each call leaves them so.
-abbrev pub AllSettled : Machine → Type 0
-AllSettled m = (n : ℕ) → Settled (port_at n m)
-
-settled_cons :
-    (p : Port) (ps : List Port) → Settled p → ((n : ℕ) → Settled (get_or ps n uart.reset_state)) → (n : ℕ) →
-    Settled (get_or (p ∷ ps) n uart.reset_state)
-settled_cons p ps s rest zero = s
-settled_cons p ps s rest (suc n) = rest n
-
-settled_set :
-    (ps : List Port) (k : ℕ) (p : Port) → Settled p → ((n : ℕ) → Settled (get_or ps n uart.reset_state)) → (n : ℕ) →
-    Settled (get_or (set ps k p) n uart.reset_state)
-settled_set [] k p s all n = all n
-settled_set (q ∷ ps) zero p s all n = settled_cons p ps s (λ i. all (suc i)) n
-settled_set (q ∷ ps) (suc k) p s all n = settled_cons q (set ps k p) (all zero) (settled_set ps k p s (λ i. all (suc i))) n
-
-pub reset_settled : (b : Board) → AllSettled (reset_state b)
-reset_settled b = search settled_cons depth 12
-
-pub answer_settled : (c : Call) (m : Machine) → AllSettled m → AllSettled (answer c m).machine
-unfolding answer
-answer_settled c m all =
-    chosen (λ b (a : Answer). AllSettled a.machine) (eqb (refusal (subject c m) m) not_refused) (execute c m) _
-    (execute_all (λ a. AllSettled a.machine) m
-    (λ n a kept. settled_set m.ports n a.port (kept.settled (all n)) all) (λ value u. all) (λ value d kept. all)
-    (λ e. all) (reset_settled m.board) c)
-    all
 
 -- On a well-formed machine an advance and a skip are single cycles.
 pub other_number : (m : Machine) → well_formed m ≡ true → refusal other m ≡ not_refused

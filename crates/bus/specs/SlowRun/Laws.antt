@@ -3,7 +3,7 @@ use Rattle.std.specs.Prelude.{suc, ◌≡◌, refl, List, [], ◌∷◌, ◌++�
 use Rattle.std.proofs.Common.{ap, ◌∙◌}
 use Rattle.bus.specs.Machine.{Machine, Answer, well_formed}
 use Rattle.bus.specs.Call.{answer}
-use Rattle.bus.specs.Call.Laws.{answer_keeps, AllSettled, answer_settled}
+use Rattle.bus.specs.Call.Laws.{answer_keeps}
 use Rattle.bus.specs.SlowRun.{answers, after}
 use Rattle.bus.specs.declared.machine.Call.{Call}
 
@@ -26,8 +26,3 @@ length_answers (c ∷ cs) m = ap suc (length_answers cs (answer c m).machine)
 pub after_keeps : (cs : List Call) (m : Machine) → well_formed (after cs m) ≡ well_formed m
 after_keeps [] m = refl
 after_keeps (c ∷ cs) m = after_keeps cs (answer c m).machine ∙ answer_keeps c m
-
--- It leaves settled levels settled.
-pub after_settled : (cs : List Call) (m : Machine) → AllSettled m → AllSettled (after cs m)
-after_settled [] m all = all
-after_settled (c ∷ cs) m all = after_settled cs (answer c m).machine (answer_settled c m all)

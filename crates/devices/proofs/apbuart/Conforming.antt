@@ -1,10 +1,10 @@
 -- How a call conforms: by the tests that led to a return, with the answer that was made there. Assumes nothing.
-use Rattle.std.proofs.Common.{◌≡◌, ℕ, ◌≤◌, Bool, true, false, cond, List, length, refl, ap, ◌∙◌}
+use Rattle.std.proofs.Common.{◌≡◌, ℕ, ◌≤◌, Bool, true, false, cond, List, [], ◌∷◌, ◌++◌, length, refl, ap, ◌∙◌}
 use Rattle.devices.specs.Cases.{tests}
 use Rattle.devices.specs.Refusal.{not_refused}
 use Rattle.devices.specs.Fifo.{queued}
 use Rattle.devices.specs.Apbuart.{Port, Answer, depth, well_formed, refused, accepted, emitting}
-use Rattle.devices.specs.Apbuart.{with_queue, update_level}
+use Rattle.devices.specs.Apbuart.{with_queue, update_level, oldest, younger}
 use Rattle.devices.specs.Apbuart.Call.{answer_to}
 use Rattle.devices.specs.Apbuart.Laws.{well_queue}
 use Rattle.devices.specs.Apbuart.View.{port_of, answer_of, Conforms}
@@ -49,10 +49,17 @@ module _ (u : Apbuart) (a : code.Answer) where
       Conforms u (refused number (port_of u)) a
   stays number e = record { answer = e.0; same = λ no. e.1 }
 
-  -- a byte that joins or leaves: the queue's own call says what waits then, and the level is worked out from that
-  pub moves :
-      (v w : ℕ) (p : Port) (q r : List ℕ) → answer_of a ≡ accepted v p → p ≡ update_level (with_queue q (port_of u)) →
-      v ≡ w → q ≡ r → Conforms u (accepted w (update_level (with_queue r (port_of u)))) a
-  moves v w p q r e f g h = accepts v w p _ e g (f ∙ ap (λ (l : List ℕ). update_level (with_queue l (port_of u))) h)
+  -- what the queue's own calls say of it
+  pub takes :
+      (b : ℕ) (q : List ℕ) → answer_of a ≡ accepted b (with_queue q (port_of u)) →
+      b ≡ oldest (queued u.queue) → q ≡ younger (queued u.queue) →
+      Conforms u (accepted (oldest (queued u.queue)) (with_queue (younger (queued u.queue)) (port_of u))) a
+  takes b q e f g = goes_on _ (rw (← f, ← g) e) refl
 
-pub ruleset conforming = (if_true, if_false, answered, accepts, emits, stays, moves, tests)
+  pub joins :
+      (b : ℕ) (p : Port) (q : List ℕ) → answer_of a ≡ accepted 0 p → p ≡ update_level (with_queue q (port_of u)) →
+      q ≡ queued u.queue ++ (b ∷ []) →
+      Conforms u (accepted 0 (update_level (with_queue (queued u.queue ++ (b ∷ [])) (port_of u)))) a
+  joins b p q e f g = accepts 0 0 p _ e refl (f ∙ ap (λ (l : List ℕ). update_level (with_queue l (port_of u))) g)
+
+pub ruleset conforming = (if_true, if_false, answered, accepts, emits, stays, takes, joins, tests)

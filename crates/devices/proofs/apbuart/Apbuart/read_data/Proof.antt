@@ -8,5 +8,5 @@ pub read_data_spec : {M : Type 1} → statement M
 read_data_spec =
     tie.close
     (tie.spec (λ c κs. search rules) (λ c κs. search rules) (λ c κs. search rules) (λ c. search rules)
-    (λ c κs. search rules) (λ c κs. search rules) (λ c κs. search rules) (λ c. search conforming depth 10)
+    (λ c κs. search rules) (λ c κs. search rules) (λ c. search conforming depth 10)
     (λ c. search conforming depth 10))
