@@ -83,6 +83,10 @@ def collect():
 WORD = re.compile(r"[^\s(){}\[\],;.:\"`«»λ|]+")
 
 
+# What a file takes from the library.
+LIBRARY = re.compile(r"^ *(?:pub )?use (?!Rattle\.(?:" + "|".join(sorted(os.listdir("crates"))) + r")\.).*$", re.M)
+
+
 def respelled(text, names):
     return WORD.sub(lambda word: names.get(word.group(), word.group()), text)
 
@@ -147,7 +151,9 @@ if __name__ == "__main__":
     for path in ANTT + RT + EDITS + [page for page in PAGES if os.path.exists(page)]:
         text = read(path)
         if path.endswith(".antt"):
-            new = respelled(text, {**{o: n for o, n in names.items() if o in where}, **CHOSEN_IN.get(path, {})})
+            of_library = set(WORD.findall(" ".join(LIBRARY.findall(text))))
+            own = {old: new for old, new in names.items() if old in where and old not in of_library}
+            new = respelled(text, {**own, **CHOSEN_IN.get(path, {})})
             if re.fullmatch(r"crates/\w+/specs/\w+\.antt", path):
                 new = tests(new)
         elif path.endswith(".rt"):

@@ -6,14 +6,14 @@ ghost use Rattle.bus.specs.Board as board;
 ghost use Rattle.bus.specs.Time as time;
 
 // What answers in a window.
-#[derive(Drop)]
+#[derive(Clone, Copy)]
 pub enum Device {
     Port(u8),
     TimerUnit,
     Controller,
 }
 
-#[derive(Drop)]
+#[derive(Clone, Copy)]
 pub struct Window {
     pub base: u32,
     pub length: u32,
@@ -21,20 +21,20 @@ pub struct Window {
 }
 
 // Where an address lies.
-#[derive(Drop)]
+#[derive(Clone, Copy)]
 pub(crate) enum Found {
     In(Window),
     Nowhere,
 }
 
 // The interrupt line of each port, port 0 first, and of each timer, timer 1 first: the word with that line's bit.
-#[derive(Drop)]
+#[derive(Clone, Copy)]
 pub struct Lines {
     pub ports: [u32; Lines::PORTS],
     pub timers: [u32; Lines::TIMERS],
 }
 
-#[derive(Drop)]
+#[derive(Clone, Copy)]
 pub struct Board {
     // How many ports: they are 0 to one below this.
     pub ports: u8,

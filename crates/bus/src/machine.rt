@@ -16,7 +16,7 @@ use devices::apbuart::Apbuart;
 use devices::gptimer::{BeforeTick, Gptimer};
 use devices::irqmp::Irqmp;
 
-#[derive(Drop)]
+#[derive(Clone, Copy)]
 pub struct Machine {
     pub ports: [Apbuart; Machine::PORTS],
     pub unit: Gptimer,
@@ -24,7 +24,7 @@ pub struct Machine {
 }
 
 // A call on a machine.
-#[derive(Drop)]
+#[derive(Clone, Copy)]
 pub enum Call {
     Read { address: u32, size: u8 },
     Write { address: u32, size: u8, value: u32 },
@@ -39,7 +39,7 @@ pub enum Call {
 }
 
 // What a call answers. What its kind does not produce is 0.
-#[derive(Drop)]
+#[derive(Clone, Copy)]
 pub struct Answer {
     // The refusal number; refusal::NOT_REFUSED where the call was not refused.
     pub refusal: u8,

@@ -9,7 +9,7 @@ ghost use Rattle.bus.specs.Route as routes;
 use crate::refusal;
 use devices::apbuart;
 
-#[derive(Drop)]
+#[derive(Clone, Copy)]
 pub struct Reply {
     pub refusal: u8,
     pub emitted: bool,

@@ -13,7 +13,7 @@ use devices::apbuart;
 use devices::gptimer::Span;
 
 // A device of which a board has one.
-#[derive(Drop)]
+#[derive(Clone, Copy)]
 pub enum Core {
     TimerUnit,
     Controller,
@@ -21,7 +21,7 @@ pub enum Core {
 
 // The order is that of their numbers in the compiled program, and what the cases hold is much alike, so that the compiler gives each
 // kind of call a jump of its own to its arm (docs/PERFORMANCE.md).
-#[derive(Drop)]
+#[derive(Clone, Copy)]
 pub enum Route {
     // Port n answers its own call.
     Port { n: usize, call: apbuart::Call },

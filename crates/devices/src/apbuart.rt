@@ -9,7 +9,7 @@ ghost use Rattle.devices.specs.Apbuart.View.{port_of, answer_of, Conforms};
 use crate::fifo::{DEPTH, Fifo};
 use crate::refusal;
 
-#[derive(Drop)]
+#[derive(Clone, Copy)]
 pub struct Apbuart {
     pub control: u32,
     pub scaler: u8,
@@ -19,7 +19,7 @@ pub struct Apbuart {
 }
 
 // A call that a bus makes on one port.
-#[derive(Drop)]
+#[derive(Clone, Copy)]
 pub enum Call {
     Read { offset: u32 },
     Write { offset: u32, value: u32 },
@@ -27,7 +27,7 @@ pub enum Call {
 }
 
 // What a call on a port answers.
-#[derive(Drop)]
+#[derive(Clone, Copy)]
 pub struct Answer {
     // The refusal number; refusal::NOT_REFUSED where the call was not refused.
     pub refusal: u8,

@@ -6,7 +6,7 @@ ghost use Rattle.devices.specs.Fifo.{queued};
 // How many bytes can wait.
 pub const DEPTH: usize = 8;
 
-#[derive(Drop)]
+#[derive(Clone, Copy)]
 pub struct Fifo {
     pub places: [u8; DEPTH],
     // The oldest byte's place, counted modulo DEPTH, so that no value of it is ill formed.

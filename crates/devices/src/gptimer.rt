@@ -10,7 +10,7 @@ ghost use Rattle.devices.specs.Gptimer.Span as spans;
 
 use crate::refusal;
 
-#[derive(Drop)]
+#[derive(Clone, Copy)]
 pub struct Timer {
     pub counter: u32,
     pub reload: u32,
@@ -22,7 +22,7 @@ pub struct Timer {
     pub ch: bool,
 }
 
-#[derive(Drop)]
+#[derive(Clone, Copy)]
 pub struct Gptimer {
     // The prescaler's value and reload.
     pub scaler: u16,
@@ -34,7 +34,7 @@ pub struct Gptimer {
 }
 
 // What an access answers.
-#[derive(Drop)]
+#[derive(Clone, Copy)]
 pub struct Answer {
     // The refusal number; refusal::NOT_REFUSED where the call was not refused.
     pub refusal: u8,
@@ -45,7 +45,7 @@ pub struct Answer {
 }
 
 // What a span of time answers.
-#[derive(Drop)]
+#[derive(Clone, Copy)]
 pub struct Elapsed {
     // The cycles passed.
     pub cycles: u64,
@@ -56,7 +56,7 @@ pub struct Elapsed {
 }
 
 // How time is to pass.
-#[derive(Drop)]
+#[derive(Clone, Copy)]
 pub enum Span {
     // By so many cycles.
     Cycles(u64),
@@ -65,7 +65,7 @@ pub enum Span {
 }
 
 // Whether a span ends before the prescaler's next tick.
-#[derive(Drop)]
+#[derive(Clone, Copy)]
 pub enum BeforeTick {
     // Its cycles, and the prescaler's value after them: nothing else changes, and no timer has a pulse.
     Yes { cycles: u64, scaler: u16 },
@@ -73,7 +73,7 @@ pub enum BeforeTick {
 }
 
 // What some ticks do to a timer.
-#[derive(Drop)]
+#[derive(Clone, Copy)]
 struct Served {
     underflows: u64,
     pulses: u64,
@@ -81,7 +81,7 @@ struct Served {
 }
 
 // A countdown that has ended and started again: how often, and where it stands.
-#[derive(Drop)]
+#[derive(Clone, Copy)]
 struct Restarted {
     ends: u64,
     value: u32,

@@ -9,7 +9,7 @@ ghost use Rattle.devices.specs.Irqmp.Words as lines;
 
 use crate::refusal;
 
-#[derive(Drop)]
+#[derive(Clone, Copy)]
 pub struct Irqmp {
     // The lines that go first.
     pub level: u32,
@@ -23,7 +23,7 @@ pub struct Irqmp {
 }
 
 // What a call on a controller answers.
-#[derive(Drop)]
+#[derive(Clone, Copy)]
 pub struct Answer {
     // The refusal number; refusal::NOT_REFUSED where the call was not refused.
     pub refusal: u8,

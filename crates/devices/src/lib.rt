@@ -1,4 +1,6 @@
 // Models of the GR712RC's devices, each apart from the bus: no addresses, no script.
+#![tactic(auto)]
+
 pub mod apbuart;
 pub mod fifo;
 pub mod gptimer;

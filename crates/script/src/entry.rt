@@ -18,7 +18,7 @@ const LONGS: usize = 6;
 pub const LENGTH: usize = 48;
 
 // A field of a record, by its name.
-#[derive(Drop)]
+#[derive(Clone, Copy)]
 pub enum Field {
     Number,
     Emitted,
@@ -30,7 +30,7 @@ pub enum Field {
 }
 
 // A field, and how many bytes it has.
-#[derive(Drop)]
+#[derive(Clone, Copy)]
 pub struct Part {
     pub field: Field,
     pub width: usize,

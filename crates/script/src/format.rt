@@ -6,7 +6,7 @@ use crate::number::number;
 use crate::refusal;
 
 // Why a file is refused.
-#[derive(Drop)]
+#[derive(Clone, Copy)]
 pub enum Reason {
     // It is shorter than a header, or has the wrong mark.
     BadFile,
@@ -15,7 +15,7 @@ pub enum Reason {
 }
 
 // Whether a file is of the kind that it is taken for, by its first bytes.
-#[derive(Drop)]
+#[derive(Clone, Copy)]
 pub enum Verdict {
     Accepted,
     Refused(Reason),
@@ -33,7 +33,7 @@ impl Reason {
 }
 
 // A kind of file: its mark, three bytes as a number, and its version.
-#[derive(Drop)]
+#[derive(Clone, Copy)]
 pub struct Format {
     pub mark: u32,
     pub version: u16,

@@ -25,7 +25,7 @@ pub const RESET: u8 = 6;
 pub const ACKNOWLEDGE: u8 = 7;
 
 // The numbers in a record, by their places.
-#[derive(Drop)]
+#[derive(Clone, Copy)]
 struct Fields {
     kind: u8,
     byte_1: u8,

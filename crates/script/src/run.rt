@@ -19,7 +19,7 @@ use bus::route::{Core, Route};
 use devices::gptimer::BeforeTick;
 
 // What a run answers.
-#[derive(Drop)]
+#[derive(Clone, Copy)]
 pub struct Ran {
     // The refusal number of the whole run; refusal::NOT_REFUSED where it was not refused.
     pub refusal: u8,

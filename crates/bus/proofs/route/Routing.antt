@@ -1,7 +1,7 @@
 -- The route of a call, from the code's tests. Assumes nothing.
 use Prim.Native.Nat.{ℕ, ◌-◌}
 use mathlib.Core.Path.{◌≡◌, refl, sym, ◌∙◌}
-use mathlib.Core.Bool.{true, false, ◌||◌, or_false}
+use mathlib.Core.Bool.{true, false, ◌||◌, or-false}
 use lib.Dec.{eqb}
 use borrow.Author.Tests.{eqb-true, eq-eqb, ne_eqb}
 use Rattle.devices.specs.Cases.{passed, failed}
@@ -32,7 +32,7 @@ module _ (r address size : ℕ) (w : Window) where
       r ≡ window_number address size w
   sized_1 sized four two f =
       let narrow : (eqb size 1 || false || false) ≡ true = rw (ne_eqb size 2 two, ne_eqb size 4 four) at sized in
-      let one : size ≡ 1 = eqb-true size 1 (sym (or_false (eqb size 1)) ∙ sym (or_false (eqb size 1 || false)) ∙ narrow) in
+      let one : size ≡ 1 = eqb-true size 1 (sym (or-false (eqb size 1)) ∙ sym (or-false (eqb size 1 || false)) ∙ narrow) in
       rw one f
 
 -- a device's own call

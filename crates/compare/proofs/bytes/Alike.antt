@@ -1,7 +1,7 @@
 -- Bytes compared one after the other. Assumes nothing.
 use Prim.Native.Nat.{ℕ, ◌+◌, ◌≤◌, ◌<◌}
 use mathlib.Core.Path.{◌≡◌, refl, sym, ◌∙◌}
-use mathlib.Core.Bool.{Bool, ◌&&◌, and_true}
+use mathlib.Core.Bool.{Bool, ◌&&◌, and-true}
 use mathlib.Core.List.{List, [], ◌∷◌}
 use native.Mathlib.Omega.{arith}
 use native.Mathlib.Numerals.{add-one}
@@ -27,7 +27,7 @@ alike_next at i count a b same e l h k =
       alike_append (take i (drop at a)) (take i (drop at b)) (get_or a (at + i) 0 ∷ []) (get_or b (at + i) 0 ∷ [])
           (length-take-le i (drop at a) (omega arith) ∙ sym (length-take-le i (drop at b) (omega arith))),
       e,
-      and_true (eqb (get_or a (at + i) 0) (get_or b (at + i) 0)),
+      and-true (eqb (get_or a (at + i) 0) (get_or b (at + i) 0)),
     ) refl
 
 pub alike_all :

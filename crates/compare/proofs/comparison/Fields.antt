@@ -7,7 +7,7 @@ use native.Mathlib.Omega.{arith}
 use native.Mathlib.Numerals.{add-one}
 use native.Mathlib.Nat.{add-zero, add_assoc}
 use lib.ListN.{length, length-drop, take, drop, drop_of_length-le, get_or}
-use lib.Seq.{drop-cons, drop_drop}
+use lib.Seq.{drop-cons, drop-drop}
 use mir.Syntax.{w64}
 use mir.Val.{Fits}
 use borrow.Author.Tests.{not-true, not-false}
@@ -65,14 +65,14 @@ module _ (table : List Part) (a b : List ℕ) (at : ℕ) where
           record {
             place = rw (add_assoc from here.width (widths (drop (i + 1) table))) placed;
             differ =
-                rw (← drop_drop here.width from a, ← drop_drop here.width from b)
+                rw (← drop-drop here.width from a, ← drop-drop here.width from b)
                 (rest_differs here.width (widths (drop (i + 1) table)) (drop from a) (drop from b)
                 (rw (length-drop from a) (omega (arith, placed))) (rw (length-drop from b) (omega (arith, placed)))
                 (rw split at s.differ) (sym e ∙ not-false same t));
             onward =
                 λ n c.
                 s.onward n c ∙
-                rw (split, ← e, not-false same t, drop_drop here.width from a, drop_drop here.width from b) refl;
+                rw (split, ← e, not-false same t, drop-drop here.width from a, drop-drop here.width from b) refl;
           }
 
   -- The last field, where none before it differs.

@@ -6,7 +6,7 @@ use mathlib.Core.List.{List}
 use native.Mathlib.Omega.{arith}
 use native.Mathlib.Nat.{add-zero, sub-zero}
 use lib.ListN.{length, length-drop, take, drop}
-use lib.Seq.{drop_drop}
+use lib.Seq.{drop-drop}
 use borrow.Author.Tests.{not-true, not-false}
 use Rattle.script.specs.Log.{entry_length, layout}
 use Rattle.script.specs.declared.entry.Field.{Field}
@@ -49,8 +49,8 @@ module _ (count : ℕ) (a b : List ℕ) where
                 left,
                 ← number n,
                 ← place,
-                ← drop_drop entry_length (entry_length * i) a,
-                ← drop_drop entry_length (entry_length * i) b,
+                ← drop-drop entry_length (entry_length * i) a,
+                ← drop-drop entry_length (entry_length * i) b,
               )
               (fields_alike (differing (suc (n + i))) layout rest rest'
               (in_records differing (count - (i + 1)) (suc (n + i)) (drop entry_length rest) (drop entry_length rest') c)

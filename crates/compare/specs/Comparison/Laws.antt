@@ -8,7 +8,7 @@ use mathlib.Core.List.{List, [], ◌∷◌, ◌++◌}
 use native.Mathlib.Omega.{arith}
 use Rattle.std.proofs.Math.Decide.{dec_lt}
 use Rattle.std.proofs.Math.Nat.{add-zero, add-suc, suc-add}
-use Rattle.std.proofs.Math.Seq.{drop_drop, take-append-le, drop-append-le}
+use Rattle.std.proofs.Math.Seq.{drop-drop, take-append-le, drop-append-le}
 use Rattle.devices.specs.Refusal.{not_refused}
 use Rattle.devices.specs.Cases.{chosen, tested}
 use Rattle.script.specs.Format.{log, header_length, refusal}
@@ -96,8 +96,8 @@ module _ {A : Type 0} where
         suc-add m k,
         records_join named m k (suc n) (drop entry_length a) (drop entry_length b) c,
         place,
-        ← drop_drop (entry_length * m) entry_length a,
-        ← drop_drop (entry_length * m) entry_length b,
+        ← drop-drop (entry_length * m) entry_length a,
+        ← drop-drop (entry_length * m) entry_length b,
         add-suc n m,
         suc-add n m,
       ) refl

@@ -1,7 +1,7 @@
 -- Theorems on the definitions of the timer unit, for every unit and spans of every length. Assumes nothing.
 use Rattle.std.specs.Prelude.{◌≡◌, ℕ, zero, suc, ◌+◌, ◌-◌, ◌<◌, ◌≤◌, Bool, true, false, cond, ◌&&◌, ◌||◌, List, [], ◌∷◌, ◌==◌, slice_index, slice_index_or, refl}
 use Rattle.std.proofs.Common.{ap, sym, ◌∙◌, true≢false, zero-add, suc-add, arith}
-use Rattle.std.proofs.Math.Bool.{or_false, or_true, or_assoc}
+use Rattle.std.proofs.Math.Bool.{or-false, or-true, or_assoc}
 use Rattle.std.proofs.Math.Decide.{dec_lt, ℕ_discrete}
 use Rattle.devices.specs.Cases.{chosen}
 use Rattle.devices.specs.Refusal.{not_refused, no_register}
@@ -85,7 +85,7 @@ unfolding advance
 pulse_last n u l =
     let whole : n ≡ n - 1 + 1 = omega arith in
     ap (λ (k : ℕ). any_pulse (advance k u).pulses) whole ∙
-    rw (advance_cut (n - 1) 1 u, any_add, any_add, any_none, or_false) refl
+    rw (advance_cut (n - 1) 1 u, any_add, any_add, any_none, or-false) refl
 
 -- It comes to the same if `pulse` speaks of all the cycles in place of the last.
 module _ (limit : ℕ) (u : Gptimer) (e : Elapsed) where
@@ -106,7 +106,7 @@ module _ (limit : ℕ) (u : Gptimer) (e : Elapsed) where
       later l = pulse_some e.cycles u (pulse l)
 
   least_pulse : Least limit u e → e.cycles < limit → any_pulse (advance e.cycles u).pulses ≡ true
-  least_pulse p l = rw (pulse_last e.cycles u (p.some (omega arith)), p.pulse l, or_true) refl
+  least_pulse p l = rw (pulse_last e.cycles u (p.some (omega arith)), p.pulse l, or-true) refl
 
 pub skip_least : (limit : ℕ) (u : Gptimer) → Least limit u (skip limit u)
 unfolding skip advance
@@ -181,7 +181,7 @@ ip_at i u = (place u.timers i).ip
 count_ip : (t : Timer) → (count t).ip ≡ (t.ip || count_underflows t)
 unfolding count
 count_ip t =
-    chosen (λ b (x : Timer). x.ip ≡ (t.ip || b)) (count_underflows t) _ _ (sym (or_true t.ip)) (sym (or_false t.ip))
+    chosen (λ b (x : Timer). x.ip ≡ (t.ip || b)) (count_underflows t) _ _ (sym (or-true t.ip)) (sym (or-false t.ip))
 
 serve_ip :
     (i : ℕ) (b : Bool) (ts : List Timer) →
@@ -189,18 +189,18 @@ serve_ip :
 serve_ip i b [] = refl
 serve_ip zero b (t ∷ ts) =
     chosen (λ c (x : Timer). x.ip ≡ (t.ip || (c && count_underflows t))) (counts_now b t) _ _ (count_ip t)
-    (sym (or_false t.ip))
+    (sym (or-false t.ip))
 serve_ip (suc i) b (t ∷ ts) = serve_ip i (underflows_now b t) ts
 
 cycle_ip : (i : ℕ) (u : Gptimer) → ip_at i (cycle u) ≡ (ip_at i u || underflows_next i u)
 unfolding cycle
 cycle_ip i u =
     chosen (λ b (x : Gptimer). ip_at i x ≡ (ip_at i u || (b && slice_index_or (serve_underflows true u.timers) i false)))
-    (u.scaler == 0) _ _ (serve_ip i true u.timers) (sym (or_false (ip_at i u)))
+    (u.scaler == 0) _ _ (serve_ip i true u.timers) (sym (or-false (ip_at i u)))
 
 -- IP is set after a span exactly if it was set before or the timer underflowed in the span. (A skip is such a span: it is
 -- an advance by the cycles that it passes, `Least.advances`.)
 pub advance_ip : (n i : ℕ) (u : Gptimer) → ip_at i (advance n u).unit ≡ (ip_at i u || underflows_within n i u)
 unfolding advance underflows_within
-advance_ip zero i u = sym (or_false (ip_at i u))
+advance_ip zero i u = sym (or-false (ip_at i u))
 advance_ip (suc n) i u = rw (advance_ip n i (cycle u), cycle_ip i u) (or_assoc (ip_at i u) (underflows_next i u) _)

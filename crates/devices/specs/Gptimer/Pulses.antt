@@ -1,7 +1,7 @@
 -- Laws of pulse counts: of adding them timer by timer, of no pulses, and of those of one cycle. Assumes nothing.
 use Rattle.std.specs.Prelude.{◌≡◌, ℕ, zero, suc, ◌+◌, ◌≤◌, Bool, true, false, ◌&&◌, ◌||◌, List, [], ◌∷◌, ◌==◌, nat_lt, slice_index, refl}
 use Rattle.std.proofs.Common.{sym, true≢false, zero-add, add-zero, add_assoc, arith, lt-ltb, ltb-false}
-use Rattle.std.proofs.Math.Bool.{or_false, or_true}
+use Rattle.std.proofs.Math.Bool.{or-false, or-true}
 use Rattle.std.proofs.Math.Decide.{dec_lt}
 use Rattle.devices.specs.Cases.{chosen}
 use Rattle.devices.specs.Gptimer.{serve_pulses, underflows_now, add_pulses, any_pulse, no_pulses, cycle_pulses, advance}
@@ -24,12 +24,12 @@ some_pulse x y =
 
 four_ways : (a b c d : Bool) → ((a || b) || (c || d)) ≡ ((a || c) || (b || d))
 four_ways true b c d = refl
-four_ways false true c d = sym (or_true c)
+four_ways false true c d = sym (or-true c)
 four_ways false false c d = refl
 
 pub any_add : (xs ys : List ℕ) → any_pulse (add_pulses xs ys) ≡ (any_pulse xs || any_pulse ys)
 any_add [] ys = refl
-any_add (x ∷ xs) [] = sym (or_false (nat_lt 0 x || any_pulse xs))
+any_add (x ∷ xs) [] = sym (or-false (nat_lt 0 x || any_pulse xs))
 any_add (x ∷ xs) (y ∷ ys) = rw (some_pulse x y, any_add xs ys) (four_ways (nat_lt 0 x) (nat_lt 0 y) (any_pulse xs) (any_pulse ys))
 
 pub any_none : (ts : List Timer) → any_pulse (no_pulses ts) ≡ false

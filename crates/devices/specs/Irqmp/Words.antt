@@ -1,7 +1,7 @@
 -- How the code finds lines, in words and by their highest bit; and that they are the lines of the definitions. Assumes nothing.
 use Rattle.std.specs.Prelude.{◌≡◌, ℕ, zero, suc, ◌+◌, ◌-◌, ◌*◌, ◌/◌, ◌^◌, ◌<◌, ◌≤◌, Bool, true, false, cond, not, ◌&&◌, ◌||◌, leb, ◌==◌, nat_le, refl}
 use Rattle.std.proofs.Common.{sym, ap, ◌∙◌, true≢false, pow-suc, arith, pow_mono, pow_pos, eqb-true, ne_eqb, lt-ltb, le-leb}
-use Rattle.std.proofs.Math.Bool.{and-eq-true_iff, and_comm, and_assoc, and_true, and_false, or_true, or_false}
+use Rattle.std.proofs.Math.Bool.{and-eq-true_iff, and_comm, and_assoc, and-true, and-false, or-true, or-false}
 use Rattle.std.proofs.Math.Decide.{ℕ_discrete}
 use Rattle.std.proofs.Math.Nat.{div-eq_of_lt, div-eq-sub-div}
 use Rattle.std.specs.Int.Bits.{bit_and, bit_or}
@@ -110,15 +110,15 @@ module _ (c : Irqmp) where
       ]
     where
       own_only : (a b e : Bool) → (a && b) ≡ (b && (a || (e && false)))
-      own_only true b e = sym (and_true b)
-      own_only false b true = sym (and_false b)
-      own_only false b false = sym (and_false b)
+      own_only true b e = sym (and-true b)
+      own_only false b true = sym (and-false b)
+      own_only false b false = sym (and-false b)
 
       with_12 : (a b e : Bool) → (e ≡ true → b ≡ true) → ((a && b) || e) ≡ (b && (a || (e && true)))
-      with_12 a true true f = rw (and_true a, or_true a) refl
-      with_12 a true false f = rw (and_true a, or_false a) refl
+      with_12 a true true f = rw (and-true a, or-true a) refl
+      with_12 a true false f = rw (and-true a, or-false a) refl
       with_12 a false true f = absurd (true≢false (sym (f refl)))
-      with_12 a false false f = rw (and_false a) refl
+      with_12 a false false f = rw (and-false a) refl
 
   -- the highest line of a word whose lines are those of 1 to 15 that pass a test
   highest_low :

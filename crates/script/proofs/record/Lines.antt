@@ -1,7 +1,7 @@
 -- A line of the table of records, from the test of its blanks. Assumes nothing.
 use Prim.Native.Nat.{ℕ, ◌≤◌}
 use mathlib.Core.Path.{◌≡◌, sym, ap, ◌∙◌}
-use mathlib.Core.Bool.{Bool, true, false, cond, ◌&&◌, and_true, and_assoc}
+use mathlib.Core.Bool.{Bool, true, false, cond, ◌&&◌, and-true, and_assoc}
 use mathlib.Core.List.{List, [], ◌∷◌, ◌++◌}
 use lib.Dec.{eqb}
 use lib.ListN.{length}
@@ -23,7 +23,7 @@ module _ (l : Line) (b : Bool) (e : b ≡ all_zero l.blanks) where
 
 -- The lines of kinds 4 to 7, by the test of the blanks that they share; a reset and an acknowledge have one more.
 one_more : (ms : List ℕ) (n : ℕ) → all_zero (ms ++ (n ∷ [])) ≡ (all_zero ms && eqb n 0)
-one_more [] n = and_true (eqb n 0)
+one_more [] n = and-true (eqb n 0)
 one_more (m ∷ ms) n = rw (one_more ms n) (sym (and_assoc (eqb m 0) (all_zero ms) (eqb n 0)))
 
 abbrev blanks4to7 : Fields → List ℕ

@@ -1,6 +1,6 @@
 -- Writing into a list, one byte and one part after the other. Assumes nothing.
 use Rattle.std.specs.Prelude.{ℕ, ◌+◌, ◌≤◌, ◌<◌, ◌≡◌, refl, List, [], ◌∷◌, ◌++◌, length, get_or, take, drop, set}
-use Rattle.std.proofs.Common.{sym, ap, ◌∙◌, append_assoc, arith, add-one, add-zero, add_assoc, length-append, take-append-drop, take_at, drop_at, drop_drop, take-suc, take_all, length-take-le}
+use Rattle.std.proofs.Common.{sym, ap, ◌∙◌, append_assoc, arith, add-one, add-zero, add_assoc, length-append, take-append-drop, take_at, drop_at, drop-drop, take-suc, take_all, length-take-le}
 use Rattle.std.proofs.lemmas.List.{set_split}
 use Rattle.script.specs.Buffer.{wrote}
 
@@ -20,9 +20,9 @@ wrote_join l xs ys i j e h =
     let head : take (i + j) (wrote l i xs) ≡ take i l ++ xs =
     ap (take (i + j)) whole ∙ take_at (take i l ++ xs) behind (i + j) front in
     let tail : drop (i + j + length ys) (wrote l i xs) ≡ drop (i + (j + length ys)) l =
-    sym (drop_drop (length ys) (i + j) (wrote l i xs)) ∙
+    sym (drop-drop (length ys) (i + j) (wrote l i xs)) ∙
     ap (λ (r : List ℕ). drop (length ys) r) (ap (drop (i + j)) whole ∙ drop_at (take i l ++ xs) behind (i + j) front) ∙
-    drop_drop (length ys) (i + j) l ∙ ap (λ (n : ℕ). drop n l) (add_assoc i j (length ys)) in
+    drop-drop (length ys) (i + j) l ∙ ap (λ (n : ℕ). drop n l) (add_assoc i j (length ys)) in
     rw (head, tail, length-append, e, append_assoc, append_assoc) refl
 
 -- One byte, and one more.

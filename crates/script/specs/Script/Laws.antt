@@ -1,6 +1,6 @@
 -- What follows from the definition of a script's calls. Assumes nothing.
 use Rattle.std.specs.Prelude.{ℕ, zero, suc, ◌+◌, ◌*◌, ◌/◌, ◌≤◌, ◌<◌, ◌≡◌, refl, List, [], ◌∷◌, ◌++◌, length, take, drop}
-use Rattle.std.proofs.Common.{ap, ◌∙◌, arith, zero-add, suc-add, div-add-mod', mod-lt, length-take, length-drop, drop_drop, drop_at, lt-ltb}
+use Rattle.std.proofs.Common.{ap, ◌∙◌, arith, zero-add, suc-add, div-add-mod', mod-lt, length-take, length-drop, drop-drop, drop_at, lt-ltb}
 use Rattle.std.proofs.lemmas.List.{take-append-le, drop-append-le}
 use Rattle.bus.specs.declared.machine.Call.TheVariants.{Malformed}
 use Rattle.script.specs.Script.{record_length, call_in, calls}
@@ -16,7 +16,7 @@ calls_add zero k script = rw (zero-add k) refl
 calls_add (suc n) k script =
     let further : record_length + record_length * n ≡ record_length * suc n = omega arith in
     let skipped : drop (record_length * n) (drop record_length script) ≡ drop (record_length * suc n) script =
-    drop_drop (record_length * n) record_length script ∙ ap (λ (i : ℕ). drop i script) further in
+    drop-drop (record_length * n) record_length script ∙ ap (λ (i : ℕ). drop i script) further in
     rw (suc-add n k, calls_add n k (drop record_length script), skipped) refl
 
 -- A record is looked at no further than its length.

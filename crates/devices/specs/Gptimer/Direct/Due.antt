@@ -2,7 +2,7 @@
 -- laws hold of times below `never`. Assumes nothing.
 use Rattle.std.specs.Prelude.{◌≡◌, ℕ, zero, suc, ◌<◌, ◌≤◌, min, Bool, true, false, cond, List, [], ◌∷◌, length, nat_le, nat_lt, refl}
 use Rattle.std.proofs.Common.{ap, sym, ◌∙◌, arith, add-one, lt_of_le_of_lt, lt_of_lt_of_le, le-leb, leb-false}
-use Rattle.std.proofs.Math.Bool.{or_false, or_assoc}
+use Rattle.std.proofs.Math.Bool.{or-false, or_assoc}
 use Rattle.std.proofs.lemmas.Bool.{lt-leb}
 use Rattle.devices.specs.Gptimer.{place, any_pulse, advance, skip}
 use Rattle.devices.specs.Gptimer.Direct.{stands, never, ends_at, once_at, Counted, idle, fallen, restarted}
@@ -102,7 +102,7 @@ first_due ticks ts e small =
       pulse_due ticks 1 ts small,
       pulse_due ticks 2 ts small,
       pulse_due ticks 3 ts small,
-      or_false,
+      or-false,
       ← or_assoc,
       earlier,
       earlier,

@@ -2,7 +2,7 @@
 use Rattle.std.specs.Prelude.{◌≡◌, ℕ, ◌+◌, ◌*◌, ◌^◌, ◌<◌, ◌≤◌, Bool, true, false, cond, not, ◌&&◌, ◌||◌, ◌⊎◌, ◌==◌, ◌≢◌, nat_le, nat_lt}
 use Rattle.std.proofs.Math.Path.{refl}
 use Rattle.std.proofs.Common.{sym, ◌∙◌, inl, inr, true≢false, arith}
-use Rattle.std.proofs.Math.Bool.{and-eq-true_iff, and_true, or_true}
+use Rattle.std.proofs.Math.Bool.{and-eq-true_iff, and-true, or-true}
 use Rattle.std.proofs.Math.Decide.{dec_lt, ℕ_discrete}
 use Rattle.std.proofs.Math.Pow.{pow-lt}
 use borrow.Author.Tests.{eq-eqb, ne_eqb, lt-ltb, le-leb, lt-leb, leb-true}
@@ -154,7 +154,7 @@ module _ (c : Irqmp) where
         | no high ↦
             let among : n ≤ extended_line c = no_higher 31 (extends c) n h (rw (le-leb 16 n (omega arith), w) refl) in
             rw (le-leb 16 n (omega arith), lt-ltb 0 (extended_line c) (omega arith))
-            (or_true (waits c 12), omega arith, omega arith, h, inr (refl, among))
+            (or-true (waits c 12), omega arith, omega arith, h, inr (refl, among))
       ]
 
   some_taken : (p : ℕ) → 0 < p → p ≤ 15 → reaches c p ≡ true → 0 < line_taken c
@@ -235,7 +235,7 @@ take_clears n l c =
           rw f
           (elim (ℕ_discrete k n) [
             | yes z ↦ rw (z, f) refl
-            | no z ↦ rw (ne_eqb k n z) (sym (and_true (bit k c.force)))
+            | no z ↦ rw (ne_eqb k n z) (sym (and-true (bit k c.force)))
           ]);
       pending = λ k h. rw f (without_line k h c.pending ∙ lost (bit k c.pending) (k == n));
     })
@@ -244,8 +244,8 @@ take_clears n l c =
     without_line k h word = bit_without k (2 ^ n) word (pow-lt l) h ∙ rw (bit_line k n) refl
 
     kept_all : (a b : Bool) → a ≡ (a && not (b && not true))
-    kept_all a true = sym (and_true a)
-    kept_all a false = sym (and_true a)
+    kept_all a true = sym (and-true a)
+    kept_all a false = sym (and-true a)
 
     lost : (a b : Bool) → (a && not b) ≡ (a && not (b && not false))
     lost a true = refl
