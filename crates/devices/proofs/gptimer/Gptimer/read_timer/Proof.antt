@@ -10,5 +10,5 @@ read_timer_spec =
     (tie.spec (λ c. search rules) (λ c. search rules) (λ c. search rules) (λ c κs. search rules)
     (λ c. search cases depth 12) (λ c. search rules) (λ c. search rules) (λ c. search rules) (λ c κs. search rules)
     (λ c. search cases depth 12) (λ c. search rules) (λ c. search rules) (λ c. search rules) (λ c κs. search rules)
-    (λ c κs. search rules) (λ c. rw (← c.before.read-control.ensures) (search cases depth 12))
+    (λ c κs. search rules) (λ c. rw (← c.before.read_control.ensures) (search cases depth 12))
     (λ c κs. search rules) (λ c. search cases depth 12))

@@ -12,7 +12,7 @@ returns c =
     let second = third.before.before in
     let first = second.before.before in
     let start = first.before.before in
-    let array = start.well-formed.0.1.1.1.1.1.0 in
+    let array = start.good.0.1.1.1.1.1.0 in
     let whole : length start.args.t1.timers ≡ 4 = length_of _ start.args.t1.timers 4 array.1.0.1 in
     ticks_by _ _ start.args.t1 _ _ _ _ whole first.count.ensures
     second.serve.ensures third.serve2.ensures fourth.serve3.ensures

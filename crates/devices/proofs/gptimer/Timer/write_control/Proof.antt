@@ -7,4 +7,4 @@ pub write_control_spec : {M : Type 1} → statement M
 write_control_spec =
     tie.close
     (tie.spec (λ c κs. search rules) (λ c κs. search rules)
-    (λ c. rw (c.load-counter.ensures, c.before.clear-pending.ensures)))
+    (λ c. rw (c.load_counter.ensures, c.before.clear_pending.ensures)))
