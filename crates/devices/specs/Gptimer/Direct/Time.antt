@@ -88,7 +88,9 @@ served_suc :
     (ticks m : ℕ) (b : Bool) (ts : List Timer) →
     served (suc ticks) (more b m) ts ≡ served ticks m (serve b ts)
 served_suc ticks m b [] = refl
-served_suc ticks m b (t ∷ ts) = rw ((at_tick ticks m b t).runs, served_suc ticks _ _ ts) refl
+served_suc ticks m b (t ∷ ts) =
+    let rest : Counted = counted (counts_in ticks m (now ticks m b t)) (now ticks m b t) in
+    rw ((at_tick ticks m b t).runs, served_suc ticks rest.underflows (underflows_now b t) ts) refl
 
 pulses_more :
     (u ie ie' : Bool) (n : ℕ) → ie' ≡ ie →
@@ -102,10 +104,11 @@ served_pulses_suc :
     served_pulses (suc ticks) (more b m) ts ≡ add_pulses (serve_pulses b ts) (served_pulses ticks m (serve b ts))
 served_pulses_suc ticks m b [] = refl
 served_pulses_suc ticks m b (t ∷ ts) =
+    let rest : Counted = counted (counts_in ticks m (now ticks m b t)) (now ticks m b t) in
     rw (
       (at_tick ticks m b t).runs,
       pulses_more (underflows_now b t) t.ie _ _ (at_tick ticks m b t).ie_kept,
-      served_pulses_suc ticks _ _ ts,
+      served_pulses_suc ticks rest.underflows (underflows_now b t) ts,
     )
     refl
 
@@ -126,7 +129,7 @@ served_pulses_none (t ∷ ts) =
 
 add_none : (ticks m : ℕ) (ts : List Timer) → add_pulses (no_pulses ts) (served_pulses ticks m ts) ≡ served_pulses ticks m ts
 add_none ticks m [] = refl
-add_none ticks m (t ∷ ts) = rw (zero-add, add_none ticks _ ts) refl
+add_none ticks m (t ∷ ts) = rw (zero-add, add_none ticks (counted (counts_in ticks m t) t).underflows ts) refl
 
 -- One cycle, and n more.
 elapsed_suc :

@@ -7,4 +7,4 @@ pub pass_spec : {M : Type 1} → statement M
 pass_spec =
     tie.close
     (tie.spec (λ c κs. search rules) (λ c κs. search rules)
-    (λ c. c.advance.ensures ∙ c.before.cycles-in.ensures))
+    (λ c. c.advance.ensures ∙ c.before.cycles_in.ensures))
