@@ -22,7 +22,7 @@ CHOSEN = {
     "bit-or": "bit-bit_or",
     "counted-down": "counted_down_lem",
     "found-there": "found_there_lem",
-    "port-exists": "port_exists_lem",
+    "port-exists": "port_is_there",
     "well-ports": "well_ports_lem",
     "at-end": "at_the_end",
 }

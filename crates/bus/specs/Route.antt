@@ -90,4 +90,4 @@ port_exists ports Reset = true
 -- each port's window in the table is that of a port that the board has, so is a port that the route names.
 pub record Leads (b : Board) (c : Call) (r : Route) : Type 0 where
   pub answers : (m : Machine) → m.board ≡ b → well_formed m ≡ true → answer c m ≡ carried_out r m
-  pub port_exists_lem : all_there b.ports b.windows ≡ true → port_exists b.ports r ≡ true
+  pub port_is_there : all_there b.ports b.windows ≡ true → port_exists b.ports r ≡ true

@@ -62,8 +62,8 @@ fn with_tail(length: usize) -> usize
 
 // Runs and logs the first `count` records; the last may be cut short.
 fn run_records(machine: Machine, script: &[u8], log: &mut [u8], count: usize) -> Ran
-    requires count_in_bounds { scripts.record_length * count < length script.now + scripts.record_length }
-    requires count_in_bounds_2 { logs.entry_length * count ≤ length log.old }
+    requires records_there { scripts.record_length * count < length script.now + scripts.record_length }
+    requires log_has_room { logs.entry_length * count ≤ length log.old }
     ensures { Conforms machine (runs.run_first count script.now log.old) result log.new }
 {
     if !machine.well_formed() {
@@ -84,9 +84,9 @@ fn run_records(machine: Machine, script: &[u8], log: &mut [u8], count: usize) ->
 // each route is carried out here: only what changed is stored, devices or the prescaler's value alone, and the machine is not
 // moved. (`Machine::call` has the same arms, by value.)
 fn play(machine: Machine, script: &[u8], log: &mut [u8], count: usize) -> Machine
-    requires count_in_bounds { scripts.record_length * count < length script.now + scripts.record_length }
-    requires count_in_bounds_2 { logs.entry_length * count ≤ length log.old }
-    requires machine_value { well_formed (bus.machine_of machine) ≡ true }
+    requires records_there { scripts.record_length * count < length script.now + scripts.record_length }
+    requires log_has_room { logs.entry_length * count ≤ length log.old }
+    requires machine_well_formed { well_formed (bus.machine_of machine) ≡ true }
     ensures { Played (runs.ran count script.now log.old (bus.machine_of machine)) result log.new }
 {
     let mut machine = machine;

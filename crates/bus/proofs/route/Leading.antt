@@ -258,5 +258,5 @@ pub leads : (b : Board) (c v : Call) (r : Route) → c ≡ v → r ≡ route b v
 leads b c v r e f =
     record {
       answers = λ m g w. routed m w c ∙ rw (g, e, ← f) refl;
-      port_exists_lem = λ t. rw (f, ← e) (route_there b c t);
+      port_is_there = λ t. rw (f, ← e) (route_there b c t);
     }

@@ -187,7 +187,7 @@ module _ (m : Machine) (route : Route) where
 -- A port that a route names is there, and its place in the code's array, by the size of a port, is a 64-bit number.
 pub leads_there : (k : machine.Call) (route : Route) → Leads gr712rc k route → port_exists gr712rc.ports route ≡ true
 unfolding gr712rc
-leads_there k route h = h.port_exists_lem refl
+leads_there k route h = h.port_is_there refl
 
 pub named_there : (n : ℕ) (c : Call) (route : Route) → port_exists gr712rc.ports route ≡ true → route ≡ Port n c → n < 6
 unfolding gr712rc
