@@ -5,8 +5,8 @@ ghost use Rattle.compare.specs.Verdict.{alike};
 // Whether the `count` bytes from `at` on are equal in both. The loop has no way out before its end: so the compiler makes of it
 // a few comparisons of many bytes each.
 pub(crate) fn equal(first: &[u8], second: &[u8], at: usize, count: usize) -> bool
-    requires count_in_bounds { at + count ≤ length first.now }
-    requires count_in_bounds_2 { at + count ≤ length second.now }
+    requires in_first { at + count ≤ length first.now }
+    requires in_second { at + count ≤ length second.now }
     ensures { result ≡ alike (take count (drop at first.now)) (take count (drop at second.now)) }
 {
     let mut same = true;

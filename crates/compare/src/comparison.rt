@@ -21,7 +21,7 @@ use script::{entry, format};
 const LAST_FIELD: usize = entry::FIELDS - 1;
 
 // What is known so far.
-#[derive(Drop)]
+#[derive(Clone, Copy)]
 pub enum Comparison {
     // So many records of each log are equal. The largest number stands for itself and every larger one.
     Undecided(u64),
@@ -29,7 +29,7 @@ pub enum Comparison {
 }
 
 // What is known after a piece of each log, and how many bytes of either were taken.
-#[derive(Drop)]
+#[derive(Clone, Copy)]
 pub struct Step {
     pub comparison: Comparison,
     pub taken: usize,
@@ -52,9 +52,9 @@ impl Comparison {
     // either piece; where one differs, or the verdict is known already, it takes nothing. (What it takes lies in both pieces: that
     // follows, and is what a caller needs.)
     pub fn next(self, first: &[u8], second: &[u8]) -> Step
-        ensures comparison_value { result.comparison ≡ comparisons.next self first.now second.now }
-        ensures taken_value { result.taken ≡ comparisons.taken self first.now second.now }
-        ensures taken_in_bounds { (result.taken ≤ length first.now) × (result.taken ≤ length second.now) }
+        ensures comparison { result.comparison ≡ comparisons.next self first.now second.now }
+        ensures taken { result.taken ≡ comparisons.taken self first.now second.now }
+        ensures within { (result.taken ≤ length first.now) × (result.taken ≤ length second.now) }
     {
         match self {
             Comparison::Undecided(before) => compare_records(before, first, second),
@@ -99,8 +99,8 @@ fn refused(which: Log, reason: Reason) -> Comparison
 
 // The whole records that both pieces have, behind so many that are equal.
 fn compare_records(before: u64, first: &[u8], second: &[u8]) -> Step
-    ensures comparison_value { result.comparison ≡ comparisons.next (Undecided before) first.now second.now }
-    ensures taken_value { result.taken ≡ comparisons.taken (Undecided before) first.now second.now }
+    ensures comparison { result.comparison ≡ comparisons.next (Undecided before) first.now second.now }
+    ensures taken { result.taken ≡ comparisons.taken (Undecided before) first.now second.now }
 {
     let count = least(first.len() / entry::LENGTH, second.len() / entry::LENGTH);
     let same = equal_records(first, second, count);
@@ -122,8 +122,8 @@ fn compare_records(before: u64, first: &[u8], second: &[u8]) -> Step
 
 // How many of the first records are equal before one that differs.
 fn equal_records(first: &[u8], second: &[u8], count: usize) -> usize
-    requires count_in_bounds { entry_length * count ≤ length first.now }
-    requires count_in_bounds_2 { entry_length * count ≤ length second.now }
+    requires in_first { entry_length * count ≤ length first.now }
+    requires in_second { entry_length * count ≤ length second.now }
     ensures { private.Matched count first.now second.now result }
 {
     let mut same = 0;
@@ -138,9 +138,9 @@ fn equal_records(first: &[u8], second: &[u8], count: usize) -> usize
 
 // The first field that differs in the two records at `at`, which are known to differ.
 fn field_at(first: &[u8], second: &[u8], at: usize) -> Field
-    requires entry_length_in_bounds { at + entry_length ≤ length first.now }
-    requires entry_length_in_bounds_2 { at + entry_length ≤ length second.now }
-    requires second_value { verdicts.alike (take entry_length (drop at first.now)) (take entry_length (drop at second.now)) ≡ false }
+    requires in_first { at + entry_length ≤ length first.now }
+    requires in_second { at + entry_length ≤ length second.now }
+    requires differ { verdicts.alike (take entry_length (drop at first.now)) (take entry_length (drop at second.now)) ≡ false }
     ensures { private.DiffersIn layout (drop at first.now) (drop at second.now) result }
 {
     differing_field(entry::layout(), first, second, at)
@@ -148,9 +148,9 @@ fn field_at(first: &[u8], second: &[u8], at: usize) -> Field
 
 // The same for any table of fields.
 fn differing_field(table: [Part; entry::FIELDS], first: &[u8], second: &[u8], at: usize) -> Field
-    requires table_in_bounds { at + widths table ≤ length first.now }
-    requires table_in_bounds_2 { at + widths table ≤ length second.now }
-    requires second_value { verdicts.alike (take (widths table) (drop at first.now)) (take (widths table) (drop at second.now)) ≡ false }
+    requires in_first { at + widths table ≤ length first.now }
+    requires in_second { at + widths table ≤ length second.now }
+    requires differ { verdicts.alike (take (widths table) (drop at first.now)) (take (widths table) (drop at second.now)) ≡ false }
     ensures { private.DiffersIn table (drop at first.now) (drop at second.now) result }
 {
     let mut from = at;
@@ -191,7 +191,7 @@ fn at_end(first: &[u8], second: &[u8]) -> Verdict
 // longer one.
 pub fn surplus(left: &[u8], piece: &[u8]) -> usize
     ensures value { result ≡ comparisons.surplus left.now piece.now }
-    ensures upper_bound { result ≤ length piece.now }
+    ensures within { result ≤ length piece.now }
 {
     let whole = piece.len() / entry::LENGTH;
     if left.len() < entry::LENGTH {

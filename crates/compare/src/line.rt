@@ -17,8 +17,8 @@ pub const LENGTH: usize = 39;
 // Puts the verdict's line at the start of the buffer, and answers its length.
 pub fn put_line(out: &mut [u8; LENGTH], verdict: Verdict) -> usize
     ensures value { result ≡ length (lines.line verdict) }
-    ensures out_after { out.new ≡ wrote out.old 0 (lines.line verdict) }
-    ensures upper_bound { result ≤ length out.new }
+    ensures written { out.new ≡ wrote out.old 0 (lines.line verdict) }
+    ensures within { result ≤ length out.new }
 {
     let at = put_verdict(out, verdict);
     put(out, at, b"\n")
@@ -27,7 +27,7 @@ pub fn put_line(out: &mut [u8; LENGTH], verdict: Verdict) -> usize
 fn put_verdict(out: &mut [u8], verdict: Verdict) -> usize
     requires { 38 ≤ length out.old }
     ensures put { Put out.old 0 (lines.verdict_text verdict) result out.new }
-    ensures upper_bound { result ≤ 38 }
+    ensures within { result ≤ 38 }
 {
     match verdict {
         Verdict::Refused { log, number } => put_refused(out, log, number),
@@ -41,7 +41,7 @@ fn put_verdict(out: &mut [u8], verdict: Verdict) -> usize
 fn put_refused(out: &mut [u8], log: Log, number: u8) -> usize
     requires { 38 ≤ length out.old }
     ensures put { Put out.old 0 (lines.verdict_text (Refused log number)) result out.new }
-    ensures upper_bound { result ≤ 38 }
+    ensures within { result ≤ 38 }
 {
     let at = put_word_and_log(out, b"refused ", log);
     let at = put(out, at, b" ");
@@ -51,7 +51,7 @@ fn put_refused(out: &mut [u8], log: Log, number: u8) -> usize
 fn put_record(out: &mut [u8], number: u64, field: Field) -> usize
     requires { 38 ≤ length out.old }
     ensures put { Put out.old 0 (lines.verdict_text (Record number field)) result out.new }
-    ensures upper_bound { result ≤ 38 }
+    ensures within { result ≤ 38 }
 {
     let at = put_record_number(out, number);
     let at = put(out, at, b" ");
@@ -62,7 +62,7 @@ fn put_record(out: &mut [u8], number: u64, field: Field) -> usize
 fn put_record_number(out: &mut [u8], number: u64) -> usize
     requires { 27 ≤ length out.old }
     ensures put { Put out.old 0 (text "record " ++ decimal number) result out.new }
-    ensures upper_bound { result ≤ 27 }
+    ensures within { result ≤ 27 }
 {
     let at = put(out, 0, b"record ");
     put_decimal_u64(out, at, number)
@@ -72,7 +72,7 @@ fn put_record_number(out: &mut [u8], number: u64) -> usize
 fn put_word_and_log(out: &mut [u8], word: &[u8], log: Log) -> usize
     requires { length word.now + 1 ≤ length out.old }
     ensures put { Put out.old 0 (word.now ++ lines.log_text log) result out.new }
-    ensures upper_bound { result ≤ length word.now + 1 }
+    ensures within { result ≤ length word.now + 1 }
 {
     let at = put(out, 0, word);
     put_log(out, at, log)
@@ -81,7 +81,7 @@ fn put_word_and_log(out: &mut [u8], word: &[u8], log: Log) -> usize
 fn put_log(out: &mut [u8], at: usize, log: Log) -> usize
     requires { at + 1 ≤ length out.old }
     ensures put { Put out.old at (lines.log_text log) result out.new }
-    ensures upper_bound { result ≤ at + 1 }
+    ensures within { result ≤ at + 1 }
 {
     match log {
         Log::First => put(out, at, b"1"),
@@ -92,7 +92,7 @@ fn put_log(out: &mut [u8], at: usize, log: Log) -> usize
 fn put_field(out: &mut [u8], at: usize, field: Field) -> usize
     requires { at + 10 ≤ length out.old }
     ensures put { Put out.old at (lines.field_text field) result out.new }
-    ensures upper_bound { result ≤ at + 10 }
+    ensures within { result ≤ at + 10 }
 {
     match field {
         Field::Number => put(out, at, b"number"),
@@ -107,7 +107,7 @@ fn put_field(out: &mut [u8], at: usize, field: Field) -> usize
 fn put_pulses(out: &mut [u8], at: usize, timer: u8) -> usize
     requires { at + 10 ≤ length out.old }
     ensures put { Put out.old at (lines.field_text (Pulses timer)) result out.new }
-    ensures upper_bound { result ≤ at + 10 }
+    ensures within { result ≤ at + 10 }
 {
     let at = put(out, at, b"pulses ");
     put_decimal_u8(out, at, timer)

@@ -20,7 +20,7 @@ pub(crate) fn put(out: &mut [u8], at: usize, text: &[u8]) -> usize
 pub(crate) fn put_decimal_u8(out: &mut [u8], at: usize, n: u8) -> usize
     requires { at + 3 ≤ length out.old }
     ensures put { Put out.old at (decimal n) result out.new }
-    ensures upper_bound { result ≤ at + 3 }
+    ensures within { result ≤ at + 3 }
 {
     put_decimal(out, at, n as u64)
 }
@@ -29,7 +29,7 @@ pub(crate) fn put_decimal_u8(out: &mut [u8], at: usize, n: u8) -> usize
 pub(crate) fn put_decimal_u64(out: &mut [u8], at: usize, n: u64) -> usize
     requires { at + 20 ≤ length out.old }
     ensures put { Put out.old at (decimal n) result out.new }
-    ensures upper_bound { result ≤ at + 20 }
+    ensures within { result ≤ at + 20 }
 {
     put_decimal(out, at, n)
 }

@@ -6,13 +6,13 @@ use script::entry::Field;
 use script::refusal;
 
 // Which of the two.
-#[derive(Drop)]
+#[derive(Clone, Copy)]
 pub enum Log {
     First,
     Second,
 }
 
-#[derive(Drop)]
+#[derive(Clone, Copy)]
 pub enum Verdict {
     // A log that is refused, by 11 or 12.
     Refused { log: Log, number: u8 },

@@ -391,8 +391,8 @@ surplus_within left piece =
 
 -- The count does not make a verdict `equal`.
 pub saturated_equal : (v : Verdict) → saturated v ≡ Equal → v ≡ Equal
-saturated_equal (Refused log number) e = e
+saturated_equal (Refused which number) e = e
 saturated_equal (Record n field) e = absurd (false≢true (ap is_equal e))
-saturated_equal (Partial log) e = e
-saturated_equal (Beginning log) e = e
+saturated_equal (Partial which) e = e
+saturated_equal (Beginning which) e = e
 saturated_equal Equal e = refl

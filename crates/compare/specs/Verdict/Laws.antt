@@ -94,10 +94,10 @@ records_self named (suc count) n a c =
 
 -- Where the verdict is `equal`, no record differs.
 abbrev pub is_equal : Verdict → Bool
-is_equal (Refused log number) = false
+is_equal (Refused which number) = false
 is_equal (Record n field) = false
-is_equal (Partial log) = false
-is_equal (Beginning log) = false
+is_equal (Partial which) = false
+is_equal (Beginning which) = false
 is_equal Equal = true
 
 fields_equal :

@@ -1,0 +1,10 @@
+-- Nothing is put at first, and each turn puts one byte more. Assumes nothing.
+use Rattle.std.proofs.Common.{refl, rules}
+use Rattle.script.specs.Buffer.Laws.{none_written, wrote_next}
+use Rattle.compare.proofs.text.put.Goals as goal
+
+pub loop-i-init : goal.loop-i-init
+loop-i-init c = (search rules, refl, search none_written)
+
+pub loop-i-preserved : goal.loop-i-preserved
+loop-i-preserved c = (search rules, search rules, search wrote_next)
