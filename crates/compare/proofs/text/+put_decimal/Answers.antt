@@ -1,5 +1,4 @@
 -- The digits of the tenth, and one behind them. Assumes nothing.
-use Rattle.std.proofs.Common.{rules}
 use Rattle.compare.proofs.text.Putting.{one_digit_fits, one_digit, tenth_fits, last_fits, digits_and_one, tenth_falls}
 use Rattle.compare.proofs.text.+put_decimal.Goals as goal
 
