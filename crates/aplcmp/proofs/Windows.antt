@@ -7,7 +7,7 @@ use lib.ListN.{length, take}
 use lib.Seq.{length-take-le}
 use Rattle.script.specs.Log.{entry_length}
 use Rattle.compare.specs.Comparison.{surplus}
-use Rattle.compare.specs.Comparison.Laws.{surplus_within}
+use Rattle.compare.proofs.Laws.Comparison.{surplus_within}
 
 -- The length of each.
 abbrev pub piece_length : ℕ

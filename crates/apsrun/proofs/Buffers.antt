@@ -12,7 +12,7 @@ use Rattle.script.specs.Log.{entry_length}
 use Rattle.script.specs.Run.{piece}
 use Rattle.script.specs.Pieces.{log_length}
 use Rattle.script.specs.View.{Conforms}
-use Rattle.script.specs.View.Laws.{piece_room}
+use Rattle.script.proofs.Laws.View.{piece_room}
 use Rattle.script.specs.declared.run.Ran.{Ran}
 
 -- The length of the log buffer: that of GATHERED pieces' logs.

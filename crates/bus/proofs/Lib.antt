@@ -1,1 +1,4 @@
 pub mod Loops
+pub mod Laws
+pub mod Examples
+pub mod Theorems

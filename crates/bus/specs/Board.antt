@@ -1,6 +1,5 @@
 -- The windows and interrupt lines of a board: paper 01, "Windows", and paper 02, No. 4. The code's structs say no more than
 -- the papers do, so the definitions are on those structs. A line is the word that has its bit.
-pub mod Laws
 use Rattle.std.specs.Prelude.{ℕ, ◌+◌, ◌^◌, Bool, true, cond, ◌&&◌, ◌||◌, List, [], ◌∷◌, nat_lt, nat_le}
 use Rattle.bus.specs.declared.board.Device.{Device}
 use Rattle.bus.specs.declared.board.Device.TheVariants.{Port, TimerUnit, Controller}

@@ -1,7 +1,6 @@
 -- Each call on a machine: paper 01, "Refusal numbers" with its order, and "The slow run"; paper 02, No. 4, adds the acknowledge, and
 -- No. 5 number 13. The code's enum of calls says no more than the papers do, so the definitions are on that enum: "An access has a
 -- 32-bit address and a size in bytes." "Script records are such calls, a malformed one a refused call".
-pub mod Laws
 use Rattle.std.specs.Prelude.{ℕ, ◌+◌, ◌-◌, ◌%◌, Bool, false, true, cond, not, ◌||◌, List, [], ◌∷◌, length, ◌==◌, nat_lt, nat_le}
 use Rattle.devices.specs.Word.{bit}
 use Rattle.devices.specs.Refusal.{not_refused, receiver_off, queue_full, ill_formed, no_register}

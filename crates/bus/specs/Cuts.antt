@@ -1,5 +1,4 @@
 -- Lists of calls of which some advances are cut: demand 3 (README.md), "Time may be cut anywhere".
-pub mod Laws
 use Rattle.std.specs.Prelude.{ℕ, ◌+◌, ◌≡◌, List, [], ◌∷◌, ◌++◌, map, length}
 use Rattle.devices.specs.Gptimer.{add_pulses}
 use Rattle.bus.specs.Machine.{Machine, Answer}

@@ -1,6 +1,5 @@
 -- A route is the one device's call, or the refusal, that a machine's call becomes on a board: the code's enum. What a call
 -- answers is defined without routes (Call.antt); `Leads` says which routes a call may take.
-pub mod Laws
 use Rattle.std.specs.Prelude.{ℕ, ◌≡◌, Bool, false, true, List, nat_lt}
 use Rattle.devices.specs.Refusal.{not_refused}
 use Rattle.devices.specs.Apbuart as uart

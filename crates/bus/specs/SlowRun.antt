@@ -1,6 +1,5 @@
 -- The slow run: paper 01, section of that name. `answer` (Call.antt) is the answer to one call; an advance and a skip go by single
 -- cycles of the machine (Time.antt).
-pub mod Laws
 use Rattle.std.specs.Prelude.{List, [], ◌∷◌}
 use Rattle.bus.specs.Machine.{Machine, Answer}
 use Rattle.bus.specs.Call.{answer}

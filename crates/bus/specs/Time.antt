@@ -1,6 +1,5 @@
 -- A step of the machine, and time: paper 02, No. 4, and paper 01, "The slow run". A step is "one access, byte or cycle" (02, No. 10).
 -- Time is single cycles of the machine.
-pub mod Laws
 use Rattle.std.specs.Prelude.{ℕ, zero, suc, Bool, false, cond, not, ◌&&◌, List, [], ◌∷◌, map, nat_lt}
 use Rattle.std.specs.Int.Bits.{bit_or}
 use Rattle.devices.specs.Refusal.{not_refused}

@@ -1,5 +1,4 @@
 -- Comparing piece by piece: paper 02, No. 1. "Logs are longer than memory; where its pieces fall may not change its verdict."
-pub mod Laws
 use Rattle.std.specs.Prelude.{ℕ, ◌+◌, ◌-◌, ◌*◌, min, cond, List, nat_lt, length}
 use Rattle.script.specs.Log.{entry_length}
 use Rattle.script.specs.declared.entry.Field.{Field}

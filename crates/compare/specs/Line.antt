@@ -1,6 +1,5 @@
 -- The line of a verdict: paper 02, No. 1. "It prints one line, as `equal`, `record 3 cycles` (counted from 1), `record 3
 -- pulses 4`, `partial 1`, `beginning 2` (the shorter log) or `refused 1 12`."
-pub mod Laws
 use Rattle.std.specs.Prelude.{ℕ, List, ◌++◌}
 use Rattle.script.specs.Text.{text, decimal, newline}
 use Rattle.script.specs.declared.entry.Field.{Field}

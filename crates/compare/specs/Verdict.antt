@@ -1,6 +1,5 @@
 -- The verdict on two logs: paper 02, No. 1. `first` and `second` are whole files; `records` and `records'` are what follows
 -- their headers.
-pub mod Laws
 use Rattle.std.specs.Prelude.{ℕ, zero, suc, ◌/◌, ◌%◌, min, Bool, true, false, not, cond, ◌&&◌, List, [], ◌∷◌, ◌==◌, nat_lt, length, take, drop}
 use Rattle.devices.specs.Refusal.{not_refused}
 use Rattle.script.specs.Format.{log, header, header_length, refusal}

@@ -4,7 +4,7 @@
 ghost use Rattle.std.specs.Prelude.{◌≡◌, false, ◌+◌, ◌*◌, ◌≤◌, min, length, take, drop};
 ghost use Rattle.script.specs.Format.{number_of};
 ghost use Rattle.script.specs.Log.{entry_length, layout};
-ghost use Rattle.script.specs.Log.Laws.{widths};
+ghost use Rattle.script.specs.Private.{widths};
 ghost use Rattle.compare.specs.Verdict as verdicts;
 ghost use Rattle.compare.specs.Comparison as comparisons;
 ghost use Rattle.compare.specs.Private as private;

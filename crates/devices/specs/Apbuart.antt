@@ -4,7 +4,6 @@
 -- and the line's level.
 pub mod View
 pub mod Call
-pub mod Laws
 use Rattle.std.specs.Prelude.{ℕ, ◌+◌, ◌*◌, ◌%◌, ◌^◌, Bool, true, false, cond, ◌&&◌, ◌||◌, List, [], ◌∷◌, ◌++◌, length, ◌==◌, nat_le, nat_lt}
 use Rattle.devices.specs.Word.{bit}
 use Rattle.devices.specs.Register.{one_of}

@@ -5,10 +5,7 @@
 -- of one, so the definitions are on those structs. No call of the unit gets 9: "A case that the chosen types exclude needs no
 -- test", and the code's types exclude each ill-formed state.
 pub mod Span
-pub mod Pulses
-pub mod Laws
 pub mod Direct
-pub mod FromReset
 use Rattle.std.specs.Prelude.{ℕ, zero, suc, ◌+◌, ◌-◌, ◌/◌, ◌%◌, ◌^◌, Bool, true, false, cond, not, ◌&&◌, ◌||◌, List, [], ◌∷◌, map, set, ◌==◌, nat_le, nat_lt, slice_index_or, slice_set}
 use Rattle.devices.specs.Word.{bit}
 use Rattle.devices.specs.Register.{one_of}

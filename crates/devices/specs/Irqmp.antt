@@ -2,7 +2,6 @@
 -- numbers", of a device's own call. One definition a rule, under the sentence that it states, in the request's order; what several
 -- rules use stands before them. Every field of the code's struct is a register, so the definitions are on that struct. A register
 -- has one bit a line: bit n is line n.
-pub mod Laws
 pub mod Words
 use Rattle.std.specs.Prelude.{ℕ, zero, suc, ◌^◌, Bool, cond, ◌&&◌, ◌||◌, List, [], ◌∷◌, ◌==◌, bit_and, bit_or, nat_le, nat_lt}
 use Rattle.devices.specs.Word.{bit, without}

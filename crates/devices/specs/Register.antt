@@ -1,5 +1,4 @@
 -- Where a device has registers: paper 02, No. 5.
-pub mod Laws
 use Rattle.std.specs.Prelude.{ℕ, Bool, false, ◌||◌, List, [], ◌∷◌, ◌==◌}
 
 -- "an offset without a register": one that is none of a device's list

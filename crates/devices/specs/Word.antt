@@ -1,5 +1,4 @@
 -- Bits of a register.
-pub mod Laws
 use Rattle.std.specs.Prelude.{ℕ, ◌-◌, ◌/◌, ◌%◌, ◌^◌, Bool, ◌==◌, bit_and}
 
 -- bit n of the word is 1

@@ -1,5 +1,4 @@
 -- What a call writes into a buffer that it is lent: paper 01, "Refusal numbers".
-pub mod Laws
 use Rattle.std.specs.Prelude.{ℕ, ◌+◌, List, ◌++◌, length, take, drop}
 
 -- Some bytes are written from place i on. "Lent places behind what a call writes stay", and so do those before it.

@@ -1,6 +1,5 @@
 -- What a script and a log begin with: paper 01, "Script and log". The code's struct says no more than the paper does, so
 -- the definitions are on that struct.
-pub mod Laws
 use Rattle.std.specs.Prelude.{ℕ, not, ◌||◌, List, [], ◌∷◌, ◌++◌, ◌==◌, nat_lt, length}
 use Rattle.devices.specs.Refusal.{not_refused}
 use Rattle.bus.specs.Call.{◌when◌, first}

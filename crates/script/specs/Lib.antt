@@ -1,8 +1,8 @@
--- `Theorems` is where to begin: what is claimed of the model. `Refusal`, `Number`, `Buffer`, `Text`, `Format`, `Script`, `Log`,
+-- proofs/Theorems.antt is where to begin: what is claimed of the model. `Refusal`, `Number`, `Buffer`, `Text`, `Format`, `Script`, `Log`,
 -- `Run` and `Program` are the definitions, in the words of the papers; `Pieces` says how a script and the program's input are cut,
 -- `Steps` what is done one after the other and what is seen of it; `View` says what of the code's types counts, and what each
--- run promises. `Private` has what private functions promise. `Laws` beside a file follow from its definitions.
-pub mod Theorems
+-- run promises. `Private` has what private functions promise. What follows from the definitions stands in
+-- proofs/Laws.
 pub mod Refusal
 pub mod Number
 pub mod Buffer

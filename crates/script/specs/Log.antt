@@ -1,5 +1,4 @@
 -- Log records: paper 01, "Script and log".
-pub mod Laws
 use Rattle.std.specs.Prelude.{ℕ, cond, List, [], ◌∷◌, ◌++◌}
 use Rattle.bus.specs.Machine.{Answer, pulses_of}
 use Rattle.script.specs.Number.{encoded}

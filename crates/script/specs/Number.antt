@@ -1,5 +1,4 @@
 -- "Numbers are big-endian": paper 01, "Script and log".
-pub mod Laws
 use Rattle.std.specs.Prelude.{ℕ, zero, suc, ◌+◌, ◌*◌, ◌/◌, ◌%◌, List, [], ◌∷◌, ◌++◌, get_or}
 
 -- byte n of some bytes

@@ -1,10 +1,11 @@
 -- What functions of the crate that are not public promise; no public contract cites this.
-use Rattle.std.specs.Prelude.{ℕ, ◌≡◌, Bool, cond, List, [], ◌∷◌, ◌++◌, reverse, get_or}
+use Rattle.std.specs.Prelude.{ℕ, ◌+◌, ◌≡◌, Bool, cond, List, [], ◌∷◌, ◌++◌, reverse, get_or}
 use Rattle.bus.specs.View.{machine_of}
 use Rattle.bus.specs.declared.machine.Machine.{Machine}
 use Rattle.script.specs.Number.{number, encoded}
 use Rattle.script.specs.Script.{Line, advance_line, skip_line, reset_line, acknowledge_line}
 use Rattle.script.specs.Run.{Ran}
+use Rattle.script.specs.declared.entry.Part.{Part}
 use Rattle.script.specs.declared.record.Fields.{Fields}
 
 -- a number of `count` bytes with them in the other order
@@ -33,3 +34,8 @@ six_longs first cycles pulses = first ∷ cycles ∷ get_or pulses 0 0 ∷ get_o
 pub record Played (d : Ran) (m : Machine) (bytes : List ℕ) : Type 0 where
   pub log : bytes ≡ d.log
   pub machine : machine_of m ≡ d.machine
+
+-- the number of bytes of some fields of a log record
+abbrev pub widths : List Part → ℕ
+widths [] = 0
+widths (p ∷ ps) = p.width + widths ps

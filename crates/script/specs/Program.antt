@@ -1,5 +1,4 @@
 -- What the program writes for what it reads: paper 01, "Script and log".
-pub mod Laws
 use Rattle.std.specs.Prelude.{ℕ, ◌%◌, cond, List, [], ◌++◌, ◌==◌, length, drop}
 use Rattle.devices.specs.Refusal.{not_refused}
 use Rattle.bus.specs.Board.{gr712rc}

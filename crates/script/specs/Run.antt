@@ -1,6 +1,5 @@
 -- A run of script records, and what the program does with a piece of its input: paper 01, "Script and log", "Refusal
 -- numbers" and "The slow run".
-pub mod Laws
 use Rattle.std.specs.Prelude.{ℕ, ◌+◌, ◌/◌, ◌%◌, min, cond, List, [], ◌==◌, length}
 use Rattle.devices.specs.Refusal.{not_refused, ill_formed}
 use Rattle.bus.specs.Machine.{Machine, Answer, well_formed}

@@ -1,5 +1,4 @@
 -- Script records: paper 01, "Script and log", with the kind that paper 02, No. 4, adds.
-pub mod Laws
 use Rattle.std.specs.Prelude.{ℕ, zero, suc, Bool, true, cond, ◌&&◌, List, [], ◌∷◌, ◌==◌, nat_lt, length, take, drop}
 use Rattle.bus.specs.declared.machine.Call.{Call}
 use Rattle.bus.specs.declared.machine.Call.TheVariants.{Read, Write, Offer, Advance, Skip, Reset, Acknowledge, Malformed}

@@ -1,6 +1,5 @@
 -- Steps on a machine, one after the other, and what is seen of them: the words of the claims on lists of calls and on scripts.
 -- A step here is a call, a run or a piece of input, and may make many calls.
-pub mod Laws
 use Rattle.std.specs.Prelude.{ℕ, zero, suc, ◌*◌, ◌≤◌, ◌≡◌, take, drop}
 use mathlib.Core.List.{List, [], ◌∷◌, ◌++◌, flat_map}
 use Rattle.bus.specs.Machine as bus

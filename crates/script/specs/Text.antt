@@ -1,5 +1,4 @@
 -- What is written for people: texts, and numbers in decimal.
-pub mod Laws
 use Rattle.std.specs.Prelude.{ℕ, zero, suc, ◌+◌, ◌/◌, ◌%◌, cond, List, [], ◌∷◌, ◌++◌, nat_lt}
 use Prim.Native.Char.{code}
 use Prim.Native.String as string

@@ -1,7 +1,6 @@
 -- What of the code's types counts, and the contract of each run. What no definition decides in a port (Apbuart/View.antt of
 -- the devices), a queue's `head` and its places that hold no waiting byte, none decides in the machine that a run leaves unless
 -- it is refused. What holds anyway: the view is decided, and from machines of one view every run writes the same log.
-pub mod Laws
 use Rattle.std.specs.Prelude.{ℕ, ◌≡◌, List, length}
 use Rattle.devices.specs.Refusal.{not_refused}
 use Rattle.bus.specs.Machine as bus

@@ -6,9 +6,9 @@ use Rattle.devices.specs.Refusal.{not_refused, ill_formed}
 use Rattle.bus.specs.Board.{gr712rc}
 use Rattle.bus.specs.Machine as bus
 use Rattle.bus.specs.Call.{answer}
-use Rattle.bus.specs.Call.Laws.{ill_refused}
+use Rattle.bus.proofs.Laws.Call.{ill_refused}
 use Rattle.bus.specs.Route.{replied, Leads}
-use Rattle.bus.specs.Route.Laws.{Outcome}
+use Rattle.bus.proofs.Laws.Route.{Outcome}
 use Rattle.bus.specs.View.{machine_of, Conforms}
 use Rattle.bus.specs.declared.machine.Machine.{Machine}
 use Rattle.bus.specs.declared.machine.Answer.{Answer}

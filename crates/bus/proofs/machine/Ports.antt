@@ -8,7 +8,7 @@ use native.Mathlib.Nat.{pow-suc, pow-le-pow_right}
 use lib.ListN.{length, get_or, drop, length-map, length-drop}
 use mir.Syntax.{w8}
 use mir.Val.{bool_byte, Fits}
-use Rattle.devices.specs.Cases.{chosen}
+use Rattle.devices.proofs.Laws.Cases.{chosen}
 use Rattle.devices.specs.Apbuart as uart
 use Rattle.devices.specs.Apbuart.View.{port_of}
 use Rattle.devices.specs.declared.apbuart.Apbuart.{Apbuart}

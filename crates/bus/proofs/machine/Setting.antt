@@ -6,7 +6,7 @@ use mathlib.Core.List.{List}
 use native.Mathlib.Omega.{arith}
 use lib.ListN.{get_or, get_or-eq_default}
 use Rattle.devices.specs.Irqmp as irq
-use Rattle.devices.specs.Irqmp.Laws.{set_none}
+use Rattle.devices.proofs.Laws.Irqmp.{set_none}
 use Rattle.devices.specs.declared.irqmp.Irqmp.{Irqmp}
 use Rattle.devices.specs.declared.irqmp.Answer.{Answer}
 use Rattle.bus.specs.Board.{gr712rc}

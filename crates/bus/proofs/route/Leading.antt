@@ -9,28 +9,28 @@ use native.Mathlib.Omega.{arith}
 use lib.Dec.{eqb, leb}
 use lib.Seq.{set-get_or}
 use borrow.Author.Tests.{leb-false, lt-ltb}
-use Rattle.devices.specs.Cases.{chosen, tested}
+use Rattle.devices.proofs.Laws.Cases.{chosen, tested}
 use Rattle.devices.specs.Refusal.{not_refused, no_register}
-use Rattle.devices.specs.Register.Laws.{ByOffset}
+use Rattle.devices.proofs.Laws.Register.{ByOffset}
 use Rattle.devices.specs.Apbuart as uart
-use Rattle.devices.specs.Apbuart.Laws as port'
+use Rattle.devices.proofs.Laws.Apbuart as port'
 use Rattle.devices.specs.Gptimer as gpt
-use Rattle.devices.specs.Gptimer.Laws as unit'
+use Rattle.devices.proofs.Laws.Gptimer as unit'
 use Rattle.devices.specs.declared.gptimer.Answer as unit
 use Rattle.devices.specs.Irqmp as irq
-use Rattle.devices.specs.Irqmp.Laws as controller'
+use Rattle.devices.proofs.Laws.Irqmp as controller'
 use Rattle.devices.specs.declared.irqmp.Answer as controller
 use Rattle.bus.specs.Refusal.{bad_size, no_window, bad_record}
 use Rattle.bus.specs.Board.{all_there, is_there, holds, window_at}
 use Rattle.bus.specs.Machine.{Machine, Answer, port_at, with_port, with_unit, with_irqmp}
 use Rattle.bus.specs.Machine.{well_formed, no_pulses, refused, of_port, of_timer_unit, of_controller}
 use Rattle.bus.specs.Time.{step, stepped}
-use Rattle.bus.specs.Time.Laws.{quiet_step, quiet_answer}
+use Rattle.bus.proofs.Laws.Time.{quiet_step, quiet_answer}
 use Rattle.bus.specs.Call.{◌when◌, is_size, first, rules, access, byte_for, has_register}
 use Rattle.bus.specs.Call.{read_device, write_device, reach, execute, window_of}
 use Rattle.bus.specs.Call.{subject, answer, refusal}
-use Rattle.bus.specs.Call.Laws.{answer_executed, answer_refused, well_at, well_ports_lem, well_irqmp}
-use Rattle.bus.specs.Call.Laws.{first_then, no_port_number, offer_number, other_number}
+use Rattle.bus.proofs.Laws.Call.{answer_executed, answer_refused, well_at, well_ports_lem, well_irqmp}
+use Rattle.bus.proofs.Laws.Call.{first_then, no_port_number, offer_number, other_number}
 use Rattle.bus.specs.Route as routes
 use Rattle.bus.specs.Route.{port_called, unit_called, controller_called, carried_out, Leads}
 use Rattle.bus.specs.Private.{window_rules, window_number, read_route, write_route, window_route, access_route, offer_route}

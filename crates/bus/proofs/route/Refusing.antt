@@ -4,7 +4,7 @@ use mathlib.Core.Path.{◌≡◌, refl}
 use mathlib.Core.Bool.{true, false, not}
 use lib.Dec.{eqb}
 use borrow.Author.Tests.{le-ltb, lt-ltb, eq-eqb, ne_eqb}
-use Rattle.devices.specs.Cases.{if_true, if_false, tests}
+use Rattle.devices.proofs.Laws.Cases.{if_true, if_false, tests}
 use Rattle.bus.specs.Board.{end}
 use Rattle.bus.specs.Call.{runs_past}
 use Rattle.bus.specs.declared.board.Window.{Window}

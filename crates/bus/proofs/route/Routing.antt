@@ -4,7 +4,7 @@ use mathlib.Core.Path.{◌≡◌, refl, sym, ◌∙◌}
 use mathlib.Core.Bool.{true, false, ◌||◌, or-false}
 use lib.Dec.{eqb}
 use borrow.Author.Tests.{eqb-true, eq-eqb, ne_eqb}
-use Rattle.devices.specs.Cases.{passed, failed}
+use Rattle.devices.proofs.Laws.Cases.{passed, failed}
 use Rattle.devices.specs.Refusal.{not_refused}
 use Rattle.devices.specs.declared.apbuart.Call.TheVariants as port
 use Rattle.bus.specs.Refusal.{bad_size, no_window, not_a_word}

@@ -9,7 +9,7 @@ use lib.Dec.{eqb}
 use lib.ListN.{length, length-drop, take, drop, get_or}
 use lib.Seq.{take-suc, length-take-le, get_or-drop}
 use Rattle.compare.specs.Verdict.{alike}
-use Rattle.compare.specs.Verdict.Laws.{alike_append}
+use Rattle.compare.proofs.Laws.Verdict.{alike_append}
 
 pub alike_next :
     (at i count : ℕ) (a b : List ℕ) (same : Bool) → same ≡ alike (take i (drop at a)) (take i (drop at b)) → i < count →

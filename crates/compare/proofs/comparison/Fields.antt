@@ -12,11 +12,11 @@ use mir.Syntax.{w64}
 use mir.Val.{Fits}
 use borrow.Author.Tests.{not-true, not-false}
 use Rattle.script.specs.Log.{entry_length, layout}
-use Rattle.script.specs.Log.Laws.{widths}
+use Rattle.script.specs.Private.{widths}
 use Rattle.script.specs.declared.entry.Part.{Part}
 use Rattle.script.specs.declared.entry.Field.{Field}
 use Rattle.compare.specs.Verdict.{alike, in_fields}
-use Rattle.compare.specs.Verdict.Laws.{rest_differs}
+use Rattle.compare.proofs.Laws.Verdict.{rest_differs}
 use Rattle.compare.specs.Private.{DiffersIn}
 use Rattle.compare.specs.declared.comparison.Comparison.{Comparison}
 

@@ -7,10 +7,10 @@ use native.Mathlib.Omega.{arith}
 use lib.ListN.{length}
 use borrow.Author.Tests.{lt-ltb, ne_eqb}
 use Rattle.devices.specs.Refusal.{not_refused}
-use Rattle.devices.specs.Cases.{cases}
+use Rattle.devices.proofs.Laws.Cases.{cases}
 use Rattle.script.specs.Log.{entry_length}
 use Rattle.script.specs.Format.{log, refusal, number_of, verdict_number}
-use Rattle.script.specs.Format.Laws.{refused_number}
+use Rattle.script.proofs.Laws.Format.{refused_number}
 use Rattle.script.specs.declared.format.Reason.{Reason}
 use Rattle.script.specs.declared.format.Verdict.{Verdict}
 use Rattle.script.specs.declared.format.Verdict.TheVariants.{Accepted}

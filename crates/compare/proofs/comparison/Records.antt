@@ -11,9 +11,9 @@ use borrow.Author.Tests.{not-true, not-false}
 use Rattle.script.specs.Log.{entry_length, layout}
 use Rattle.script.specs.declared.entry.Field.{Field}
 use Rattle.compare.specs.Verdict.{alike, in_records, common, at_end}
-use Rattle.compare.specs.Verdict.Laws.{fields_alike}
+use Rattle.compare.proofs.Laws.Verdict.{fields_alike}
 use Rattle.compare.specs.Comparison.{largest, differing, next, taken, end}
-use Rattle.compare.specs.Comparison.Laws.{taken_first, taken_second}
+use Rattle.compare.proofs.Laws.Comparison.{taken_first, taken_second}
 use Rattle.compare.specs.Private.{EqualFor, Matched, DiffersIn}
 use Rattle.compare.specs.declared.verdict.Verdict.{Verdict}
 use Rattle.compare.specs.declared.verdict.Verdict.TheVariants.{Record}

@@ -7,9 +7,9 @@ use lib.ListN.{length, length-append, take, set}
 use mir.Syntax.{w8, w64}
 use mir.Val.{Fits}
 use Rattle.script.specs.Buffer.{wrote}
-use Rattle.script.specs.Buffer.Laws.{wrote_all, wrote_one, wrote_join}
+use Rattle.script.proofs.Laws.Buffer.{wrote_all, wrote_one, wrote_join}
 use Rattle.script.specs.Text.{digit, decimal}
-use Rattle.script.specs.Text.Laws.{decimal_one, decimal_more, decimal_length}
+use Rattle.script.proofs.Laws.Text.{decimal_one, decimal_more, decimal_length}
 use Rattle.compare.specs.Private.{Put}
 
 pub put_all :

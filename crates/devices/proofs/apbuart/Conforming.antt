@@ -1,12 +1,12 @@
 -- How a call conforms: by the tests that led to a return, with the answer that was made there. Assumes nothing.
 use Rattle.std.proofs.Common.{◌≡◌, ℕ, ◌≤◌, Bool, true, false, cond, List, [], ◌∷◌, ◌++◌, length, refl, ap, ◌∙◌}
-use Rattle.devices.specs.Cases.{tests}
+use Rattle.devices.proofs.Laws.Cases.{tests}
 use Rattle.devices.specs.Refusal.{not_refused}
 use Rattle.devices.specs.Fifo.{queued}
 use Rattle.devices.specs.Apbuart.{Port, Answer, depth, well_formed, refused, accepted, emitting}
 use Rattle.devices.specs.Apbuart.{with_queue, update_level, oldest, younger}
 use Rattle.devices.specs.Apbuart.Call.{answer_to}
-use Rattle.devices.specs.Apbuart.Laws.{well_queue}
+use Rattle.devices.proofs.Laws.Apbuart.{well_queue}
 use Rattle.devices.specs.Apbuart.View.{port_of, answer_of, Conforms}
 use Rattle.devices.specs.declared.apbuart.Apbuart.{Apbuart}
 use Rattle.devices.specs.declared.apbuart.Answer as code

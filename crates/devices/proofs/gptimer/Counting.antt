@@ -1,9 +1,9 @@
 -- What the code does in some counts is the direct form. Assumes nothing.
 use Rattle.std.proofs.Common.{◌≡◌, ℕ, suc, ◌+◌, ◌-◌, ◌%◌, ◌^◌, ◌<◌, ◌≤◌, true, false, sym, refl, ap, ◌∙◌}
-use Rattle.devices.specs.Cases.{same}
+use Rattle.devices.proofs.Laws.Cases.{same}
 use Rattle.devices.specs.Gptimer.{with_counter, with_ip}
 use Rattle.devices.specs.Gptimer.Direct.{periods, standing, stopped, counted, underflow_pulses, counts_in, counted_timer, served_timer}
-use Rattle.devices.specs.Gptimer.Direct.Countdown.{stands_first, stands_past}
+use Rattle.devices.proofs.Laws.Gptimer.Direct.Countdown.{stands_first, stands_past}
 use Rattle.devices.proofs.gptimer.Countdown.{no_wrap}
 use Rattle.devices.specs.declared.gptimer.Timer.{Timer}
 use Rattle.devices.specs.declared.gptimer.Served.{Served}

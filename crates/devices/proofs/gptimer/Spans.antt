@@ -2,14 +2,14 @@
 use Rattle.std.proofs.Common.{◌≡◌, ℕ, zero, suc, ◌-◌, ◌^◌, ◌<◌, ◌≤◌, min, true, false, cond, ltb, List, [], ◌∷◌, length, sym, refl, ◌∙◌, arith, ltb-true, le-ltb, lt-ltb, ne_eqb}
 use Prim.Native.Nat.compare
 use native.Mathlib.Nat.{suc-sub-suc, sub-zero}
-use Rattle.devices.specs.Cases.{same}
+use Rattle.devices.proofs.Laws.Cases.{same}
 use Rattle.devices.specs.Gptimer.{place, with_scaler, with_timers, no_pulses, cycle, advance}
 use Rattle.devices.specs.Gptimer.Span.{pass, most, any_tick, counted_down, Tells}
 use Rattle.devices.specs.Gptimer.Direct.{periods, standing, ends_at, counted_timer, served_timer}
 use Rattle.devices.specs.Gptimer.Direct.{ticked, elapsed, due, due_tick, first_tick, tick_cycle}
-use Rattle.devices.specs.Gptimer.Direct.Countdown.{stands_first, stands_past}
-use Rattle.devices.specs.Gptimer.Direct.Time.{served_none, served_pulses_none, advance_elapsed}
-use Rattle.devices.specs.Gptimer.Direct.Due.{four, skip_advance, due_later, first_later}
+use Rattle.devices.proofs.Laws.Gptimer.Direct.Countdown.{stands_first, stands_past}
+use Rattle.devices.proofs.Laws.Gptimer.Direct.Time.{served_none, served_pulses_none, advance_elapsed}
+use Rattle.devices.proofs.Laws.Gptimer.Direct.Due.{four, skip_advance, due_later, first_later}
 use Rattle.devices.specs.declared.gptimer.Timer.{Timer}
 use Rattle.devices.specs.declared.gptimer.Served.{Served}
 use Rattle.devices.specs.declared.gptimer.Gptimer.{Gptimer}

@@ -4,11 +4,12 @@ use lib.Bits.{bit_and, bit_or}
 use lib.Count.{count_leading_zeros, leading_top}
 use lib.Pow.{pow-lt}
 use borrow.Author.Tests.{not-true, not-false}
-use Rattle.devices.specs.Cases.{cases}
+use Rattle.devices.proofs.Laws.Cases.{cases}
 use Rattle.devices.specs.Refusal.{ill_formed}
 use Rattle.devices.specs.Word.{bit, without}
 use Rattle.devices.specs.Irqmp as irq
-use Rattle.devices.specs.Irqmp.Words.{highest_in, waiting, reaching, highest_top}
+use Rattle.devices.specs.Irqmp.Words.{highest_in, waiting, reaching}
+use Rattle.devices.proofs.Laws.Irqmp.Words.{highest_top}
 use Rattle.devices.specs.declared.irqmp.Irqmp.{Irqmp}
 use Rattle.devices.specs.declared.irqmp.Answer.{Answer}
 

@@ -1,8 +1,5 @@
 -- The direct form: what many counts, ticks or cycles do, worked out by a division. It is what the code computes. No
 -- contract of a public call cites it, and none of it is trusted: `Time` and `Due` below prove it of single cycles.
-pub mod Countdown
-pub mod Time
-pub mod Due
 use Rattle.std.specs.Prelude.{ℕ, zero, suc, ◌+◌, ◌-◌, ◌*◌, ◌/◌, ◌%◌, ◌^◌, min, true, false, cond, List, [], ◌∷◌, ◌==◌, nat_le}
 use Rattle.devices.specs.Gptimer.{with_scaler, with_timers, with_counter, with_en, with_ip, place}
 use Rattle.devices.specs.declared.gptimer.Timer.{Timer}

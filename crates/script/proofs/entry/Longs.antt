@@ -10,11 +10,11 @@ use lib.Seq.{take-suc, take_all, length-take-le}
 use Rattle.bus.specs.Machine as bus
 use Rattle.bus.specs.Machine.{Machine}
 use Rattle.script.specs.Number.{encoded}
-use Rattle.script.specs.Number.Laws.{encoded_join, length_encoded}
+use Rattle.script.proofs.Laws.Number.{encoded_join, length_encoded}
 use Rattle.script.specs.Buffer.{wrote}
 use Rattle.script.specs.Log.{entry}
 use Rattle.script.specs.Private.{longs, first_long, six_longs}
-use Rattle.script.specs.Buffer.Laws.{wrote_join}
+use Rattle.script.proofs.Laws.Buffer.{wrote_join}
 
 -- The first 8 bytes as one number.
 pub first_joined :

@@ -6,7 +6,7 @@ use mathlib.Core.List.{List, ◌∷◌, ◌++◌}
 use lib.Dec.{eqb}
 use lib.ListN.{length}
 use borrow.Author.Tests.{le-ltb, lt-ltb, eq-eqb, ne_eqb}
-use Rattle.devices.specs.Cases.{chosen, cases}
+use Rattle.devices.proofs.Laws.Cases.{chosen, cases}
 use Rattle.devices.specs.Refusal.{not_refused}
 use Rattle.script.specs.Number.{number}
 use Rattle.script.specs.Refusal.{bad_file, bad_version}

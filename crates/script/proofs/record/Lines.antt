@@ -6,7 +6,7 @@ use mathlib.Core.List.{List, [], ◌∷◌, ◌++◌}
 use lib.Dec.{eqb}
 use lib.ListN.{length}
 use borrow.Author.Tests.{le-ltb}
-use Rattle.devices.specs.Cases.{same, tested}
+use Rattle.devices.proofs.Laws.Cases.{same, tested}
 use Rattle.bus.specs.declared.machine.Call.{Call}
 use Rattle.bus.specs.declared.machine.Call.TheVariants.{Advance, Skip, Reset, Acknowledge, Malformed}
 use Rattle.script.specs.Script.{record_length, ADVANCE, SKIP, RESET, ACKNOWLEDGE, fields, Line, table}

@@ -11,9 +11,9 @@ use Rattle.bus.specs.Board.{gr712rc}
 use Rattle.bus.specs.Machine as bus
 use Rattle.bus.specs.Call.{answer}
 use Rattle.bus.specs.SlowRun.{answers}
-use Rattle.bus.specs.SlowRun.Laws.{answers_append, after_append, after_keeps}
+use Rattle.bus.proofs.Laws.SlowRun.{answers_append, after_append, after_keeps}
 use Rattle.bus.specs.Route.{replied, Leads}
-use Rattle.bus.specs.Route.Laws.{Outcome}
+use Rattle.bus.proofs.Laws.Route.{Outcome}
 use Rattle.bus.specs.View.{machine_of}
 use Rattle.bus.specs.declared.machine.Machine.{Machine}
 use Rattle.bus.specs.declared.machine.Call.{Call}
@@ -22,14 +22,14 @@ use Rattle.bus.specs.declared.route.Route.{Route}
 use Rattle.script.specs.Buffer.{wrote}
 use Rattle.script.specs.Script as scripts
 use Rattle.script.specs.Script.{call_in, calls}
-use Rattle.script.specs.Script.Laws.{calls_add}
+use Rattle.script.proofs.Laws.Script.{calls_add}
 use Rattle.script.specs.Log as logs
 use Rattle.script.specs.Log.{entry, entries}
-use Rattle.script.specs.Log.Laws.{entries_append}
+use Rattle.script.proofs.Laws.Log.{entries_append}
 use Rattle.script.specs.Run.{ran}
-use Rattle.script.specs.Run.Laws.{written_length}
+use Rattle.script.proofs.Laws.Run.{written_length}
 use Rattle.script.specs.Private.{Played}
-use Rattle.script.specs.Buffer.Laws.{wrote_join, none_written}
+use Rattle.script.proofs.Laws.Buffer.{wrote_join, none_written}
 
 -- The record at a place: the last one, which may be cut short, and any other.
 module _ (script : List ℕ) (k n : ℕ) where

@@ -7,18 +7,18 @@ use native.Mathlib.Omega.{arith}
 use native.Mathlib.Nat.{div-add-mod'}
 use lib.Dec.{eqb}
 use borrow.Author.Tests.{eq-eqb, ne_eqb}
-use Rattle.devices.specs.Cases.{passed, failed}
+use Rattle.devices.proofs.Laws.Cases.{passed, failed}
 use Rattle.devices.specs.Refusal.{not_refused, ill_formed}
 use Rattle.bus.specs.Machine as bus
-use Rattle.bus.specs.SlowRun.Laws.{length_answers}
+use Rattle.bus.proofs.Laws.SlowRun.{length_answers}
 use Rattle.bus.specs.View.{machine_of}
 use Rattle.bus.specs.declared.machine.Machine.{Machine}
 use Rattle.script.specs.Script as scripts
 use Rattle.script.specs.Script.{calls}
-use Rattle.script.specs.Script.Laws.{length_calls}
+use Rattle.script.proofs.Laws.Script.{length_calls}
 use Rattle.script.specs.Log as logs
 use Rattle.script.specs.Run as run
-use Rattle.script.specs.Run.Laws.{tail_starts}
+use Rattle.script.proofs.Laws.Run.{tail_starts}
 use Rattle.script.specs.View.{Conforms}
 use Rattle.script.specs.Private.{Played}
 use Rattle.script.specs.declared.run.Ran.{Ran}

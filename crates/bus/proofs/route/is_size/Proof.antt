@@ -1,5 +1,5 @@
 -- Each return follows from the tests that led to it. Assumes nothing.
-use Rattle.devices.specs.Cases.{tests}
+use Rattle.devices.proofs.Laws.Cases.{tests}
 use Rattle.bus.proofs.route.is_size.Statement.{statement}
 use Rattle.bus.proofs.route.is_size.Tie as tie
 

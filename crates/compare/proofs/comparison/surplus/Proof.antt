@@ -1,6 +1,6 @@
 -- Each return follows from the tests that led to it. Assumes nothing.
 use borrow.Author.Rules.{rules}
-use Rattle.devices.specs.Cases.{cases}
+use Rattle.devices.proofs.Laws.Cases.{cases}
 use Rattle.compare.proofs.comparison.Judging.{all_but_one, none_over}
 use Rattle.compare.proofs.comparison.surplus.Statement.{statement}
 use Rattle.compare.proofs.comparison.surplus.Tie as tie

@@ -1,6 +1,6 @@
 -- Nothing is put at first, and each turn puts one byte more. Assumes nothing.
 use Rattle.std.proofs.Common.{refl, rules}
-use Rattle.script.specs.Buffer.Laws.{none_written, wrote_next}
+use Rattle.script.proofs.Laws.Buffer.{none_written, wrote_next}
 use Rattle.compare.proofs.text.put.Goals as goal
 
 pub loop-i-init : goal.loop-i-init

@@ -1,6 +1,6 @@
 -- Nothing is written at first, and each turn writes one number more. Assumes nothing.
 use Rattle.std.proofs.Common.{refl, rules}
-use Rattle.script.specs.Buffer.Laws.{none_written}
+use Rattle.script.proofs.Laws.Buffer.{none_written}
 use Rattle.script.proofs.entry.Longs.{next_long, all_longs}
 use Rattle.script.proofs.entry.put_longs.Goals as goal
 

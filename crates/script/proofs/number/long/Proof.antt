@@ -1,6 +1,6 @@
 -- Two numbers, one behind the other. Assumes nothing.
 use borrow.Author.Rules.{rules}
-use Rattle.script.specs.Number.Laws.{number_join}
+use Rattle.script.proofs.Laws.Number.{number_join}
 use Rattle.script.proofs.number.long.Statement.{statement}
 use Rattle.script.proofs.number.long.Tie as tie
 

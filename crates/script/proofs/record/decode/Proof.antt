@@ -1,6 +1,6 @@
 -- A record that is long enough is read whole. Assumes nothing.
 use borrow.Author.Rules.{rules}
-use Rattle.devices.specs.Cases.{cases}
+use Rattle.devices.proofs.Laws.Cases.{cases}
 use Rattle.script.specs.Script.{call_in}
 use Rattle.script.proofs.record.Lines.{whole_record}
 use Rattle.script.proofs.record.decode.Statement.{statement}

@@ -1,5 +1,5 @@
 -- Each return follows from the tests that led to it. Assumes nothing.
-use Rattle.devices.specs.Cases.{cases}
+use Rattle.devices.proofs.Laws.Cases.{cases}
 use Rattle.script.proofs.record.is_blank.Statement.{statement}
 use Rattle.script.proofs.record.is_blank.Tie as tie
 

@@ -1,9 +1,9 @@
 -- Each arm carries its route out: one record more. Assumes nothing.
 use Rattle.std.proofs.Common.{refl, rules}
-use Rattle.devices.specs.Lists.{length_of}
-use Rattle.bus.specs.Route.Laws.{port_there, leads_there, named_there, refused_outcome, port_outcome}
-use Rattle.bus.specs.Route.Laws.{unit_read_outcome, unit_write_outcome, controller_read_outcome}
-use Rattle.bus.specs.Route.Laws.{controller_write_outcome, acknowledge_outcome, short_outcome, pass_outcome, reset_outcome}
+use Rattle.devices.proofs.Laws.Lists.{length_of}
+use Rattle.bus.proofs.Laws.Route.{port_there, leads_there, named_there, refused_outcome, port_outcome}
+use Rattle.bus.proofs.Laws.Route.{unit_read_outcome, unit_write_outcome, controller_read_outcome}
+use Rattle.bus.proofs.Laws.Route.{controller_write_outcome, acknowledge_outcome, short_outcome, pass_outcome, reset_outcome}
 use Rattle.script.proofs.run.Playing.{none_played, one_more, all_played}
 use Rattle.script.proofs.run.play.Goals as goal
 

@@ -1,6 +1,6 @@
 -- By the test for 9. Assumes nothing.
 use borrow.Author.Rules.{rules}
-use Rattle.devices.specs.Cases.{passed}
+use Rattle.devices.proofs.Laws.Cases.{passed}
 use Rattle.script.proofs.run.Runs.{records_done, records_refused}
 use Rattle.script.proofs.run.run_records.Statement.{statement}
 use Rattle.script.proofs.run.run_records.Tie as tie

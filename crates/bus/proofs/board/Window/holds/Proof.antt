@@ -1,6 +1,6 @@
 -- Each return follows from the tests that led to it. Assumes nothing.
 use borrow.Author.Rules.{rules}
-use Rattle.devices.specs.Cases.{cases}
+use Rattle.devices.proofs.Laws.Cases.{cases}
 use Rattle.bus.proofs.board.Window.holds.Statement.{statement}
 use Rattle.bus.proofs.board.Window.holds.Tie as tie
 

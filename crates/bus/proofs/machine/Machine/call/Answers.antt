@@ -1,10 +1,10 @@
 -- By the test for 9, and by the route. Assumes nothing.
 use Rattle.std.proofs.Common.{◌≡◌, refl, length, rules}
-use Rattle.devices.specs.Lists.{length_of}
+use Rattle.devices.proofs.Laws.Lists.{length_of}
 use Rattle.bus.specs.Board.{gr712rc}
-use Rattle.bus.specs.Route.Laws.{port_there, refused_outcome, port_outcome, unit_read_outcome, unit_write_outcome}
-use Rattle.bus.specs.Route.Laws.{controller_read_outcome, controller_write_outcome, acknowledge_outcome}
-use Rattle.bus.specs.Route.Laws.{short_outcome, pass_outcome, reset_outcome}
+use Rattle.bus.proofs.Laws.Route.{port_there, refused_outcome, port_outcome, unit_read_outcome, unit_write_outcome}
+use Rattle.bus.proofs.Laws.Route.{controller_read_outcome, controller_write_outcome, acknowledge_outcome}
+use Rattle.bus.proofs.Laws.Route.{short_outcome, pass_outcome, reset_outcome}
 use Rattle.bus.proofs.machine.Carrying.{well_called, ill_called}
 use Rattle.bus.proofs.machine.Machine.call.Goals as goal
 use Rattle.bus.proofs.machine.Machine.call.Goals.{then-well_formed+in-Refused, then-well_formed+in-Port}

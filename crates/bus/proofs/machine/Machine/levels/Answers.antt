@@ -1,6 +1,6 @@
 -- Each step from the last port down joins one level. Assumes nothing.
 use Rattle.std.proofs.Common.{rules}
-use Rattle.devices.specs.Lists.{length_of}
+use Rattle.devices.proofs.Laws.Lists.{length_of}
 use Rattle.bus.proofs.machine.Ports.{levels_none, levels_double, levels_join, levels_more}
 use Rattle.bus.proofs.machine.Machine.levels.Goals as goal
 

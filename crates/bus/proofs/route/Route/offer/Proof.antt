@@ -1,5 +1,5 @@
 -- By the test for the port. Assumes nothing.
-use Rattle.devices.specs.Cases.{cases}
+use Rattle.devices.proofs.Laws.Cases.{cases}
 use Rattle.bus.proofs.route.Route.offer.Statement.{statement}
 use Rattle.bus.proofs.route.Route.offer.Tie as tie
 

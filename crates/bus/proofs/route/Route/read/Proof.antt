@@ -1,6 +1,6 @@
 -- By the tests for 1, 2 and 3 to 5. Assumes nothing.
 use borrow.Author.Rules.{rules}
-use Rattle.devices.specs.Cases.{passed}
+use Rattle.devices.proofs.Laws.Cases.{passed}
 use Rattle.bus.proofs.route.Routing.{accessing}
 use Rattle.bus.proofs.route.Route.read.Statement.{statement}
 use Rattle.bus.proofs.route.Route.read.Tie as tie

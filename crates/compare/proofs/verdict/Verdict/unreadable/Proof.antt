@@ -1,5 +1,5 @@
 -- By the log. Assumes nothing.
-use Rattle.compare.specs.Verdict.Laws.{unreadable_refused}
+use Rattle.compare.proofs.Laws.Verdict.{unreadable_refused}
 use Rattle.compare.proofs.verdict.Verdict.unreadable.Statement.{statement}
 use Rattle.compare.proofs.verdict.Verdict.unreadable.Tie as tie
 

@@ -1,6 +1,6 @@
 -- A span before the next tick, or past it. Assumes nothing.
 use Rattle.std.proofs.Common.{rules}
-use Rattle.devices.specs.Lists.{length_of}
+use Rattle.devices.proofs.Laws.Lists.{length_of}
 use Rattle.devices.proofs.gptimer.Spans.{no_tick, has_tick, ends_before}
 use Rattle.devices.proofs.gptimer.Gptimer.before_tick.Statement.{statement}
 use Rattle.devices.proofs.gptimer.Gptimer.before_tick.Tie as tie

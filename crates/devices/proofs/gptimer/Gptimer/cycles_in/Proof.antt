@@ -1,6 +1,6 @@
 -- By the kind of span. Assumes nothing.
 use Rattle.std.proofs.Common.{rules}
-use Rattle.devices.specs.Lists.{length_of}
+use Rattle.devices.proofs.Laws.Lists.{length_of}
 use Rattle.devices.proofs.gptimer.Spans.{by_cycles, to_pulse}
 use Rattle.devices.proofs.gptimer.Gptimer.cycles_in.Statement.{statement}
 use Rattle.devices.proofs.gptimer.Gptimer.cycles_in.Tie as tie

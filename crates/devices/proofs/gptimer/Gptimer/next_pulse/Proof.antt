@@ -1,6 +1,6 @@
 -- The cycle of the first tick that has a pulse. Assumes nothing.
 use Rattle.std.proofs.Common.{rules}
-use Rattle.devices.specs.Lists.{length_of}
+use Rattle.devices.proofs.Laws.Lists.{length_of}
 use Rattle.devices.proofs.gptimer.Spans.{first_after, cycle_of}
 use Rattle.devices.proofs.gptimer.Gptimer.next_pulse.Statement.{statement}
 use Rattle.devices.proofs.gptimer.Gptimer.next_pulse.Tie as tie

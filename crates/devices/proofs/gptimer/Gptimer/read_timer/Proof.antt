@@ -1,6 +1,6 @@
 -- Each return follows from the tests that led to it. Assumes nothing.
 use Rattle.std.proofs.Common.{rules}
-use Rattle.devices.specs.Cases.{cases}
+use Rattle.devices.proofs.Laws.Cases.{cases}
 use Rattle.devices.proofs.gptimer.Gptimer.read_timer.Statement.{statement}
 use Rattle.devices.proofs.gptimer.Gptimer.read_timer.Tie as tie
 

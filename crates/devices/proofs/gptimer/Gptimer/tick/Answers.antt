@@ -1,6 +1,6 @@
 -- The four timers, one after the other. Assumes nothing.
 use Rattle.std.proofs.Common.{◌≡◌, length, rules}
-use Rattle.devices.specs.Lists.{length_of}
+use Rattle.devices.proofs.Laws.Lists.{length_of}
 use Rattle.devices.proofs.gptimer.Spans.{ticks_by}
 use Rattle.devices.proofs.gptimer.Gptimer.tick.Goals as goal
 

@@ -1,5 +1,5 @@
 -- Each return follows from the tests that led to it. Assumes nothing.
-use Rattle.devices.specs.Cases.{cases}
+use Rattle.devices.proofs.Laws.Cases.{cases}
 use Rattle.devices.proofs.gptimer.Timer.clear_pending.Statement.{statement}
 use Rattle.devices.proofs.gptimer.Timer.clear_pending.Tie as tie
 

@@ -1,6 +1,6 @@
 -- Each return follows from the tests that led to it. Assumes nothing.
 use Rattle.std.proofs.Common.{add-one, rules}
-use Rattle.devices.specs.Cases.{cases}
+use Rattle.devices.proofs.Laws.Cases.{cases}
 use Rattle.devices.specs.Gptimer.Direct.{due, once_at}
 use Rattle.devices.proofs.gptimer.Timer.due.Statement.{statement}
 use Rattle.devices.proofs.gptimer.Timer.due.Tie as tie

@@ -1,5 +1,5 @@
 -- Each return follows from the tests that led to it. Assumes nothing.
-use Rattle.devices.specs.Cases.{cases}
+use Rattle.devices.proofs.Laws.Cases.{cases}
 use Rattle.devices.proofs.gptimer.Timer.load_counter.Statement.{statement}
 use Rattle.devices.proofs.gptimer.Timer.load_counter.Tie as tie
 

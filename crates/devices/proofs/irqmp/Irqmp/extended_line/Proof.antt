@@ -1,6 +1,6 @@
 -- The extended lines are a word. Assumes nothing.
 use Rattle.std.proofs.Common.{rules}
-use Rattle.devices.specs.Irqmp.Words.{extended_by}
+use Rattle.devices.proofs.Laws.Irqmp.Words.{extended_by}
 use Rattle.devices.proofs.irqmp.Irqmp.extended_line.Statement.{statement}
 use Rattle.devices.proofs.irqmp.Irqmp.extended_line.Tie as tie
 

@@ -1,6 +1,6 @@
 -- The lines that reach the processor are a word. Assumes nothing.
 use Rattle.std.proofs.Common.{rules}
-use Rattle.devices.specs.Irqmp.Words.{taken_by}
+use Rattle.devices.proofs.Laws.Irqmp.Words.{taken_by}
 use Rattle.devices.proofs.irqmp.Irqmp.line_taken.Statement.{statement}
 use Rattle.devices.proofs.irqmp.Irqmp.line_taken.Tie as tie
 

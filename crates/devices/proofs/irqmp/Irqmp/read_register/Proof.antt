@@ -1,6 +1,6 @@
 -- Each return follows from the tests that led to it. Assumes nothing.
 use Rattle.std.proofs.Common.{rules}
-use Rattle.devices.specs.Cases.{cases}
+use Rattle.devices.proofs.Laws.Cases.{cases}
 use Rattle.devices.proofs.irqmp.Irqmp.read_register.Statement.{statement}
 use Rattle.devices.proofs.irqmp.Irqmp.read_register.Tie as tie
 

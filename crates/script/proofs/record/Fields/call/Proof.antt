@@ -1,6 +1,6 @@
 -- Each arm is a line of the table. Assumes nothing.
 use borrow.Author.Rules.{rules}
-use Rattle.devices.specs.Cases.{cases}
+use Rattle.devices.proofs.Laws.Cases.{cases}
 use Rattle.script.proofs.record.Fields.call.Statement.{statement}
 use Rattle.script.proofs.record.Fields.call.Tie as tie
 

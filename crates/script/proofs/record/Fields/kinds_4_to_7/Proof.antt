@@ -1,7 +1,7 @@
 -- The blanks that the lines share are tested once. Assumes nothing.
 use borrow.Author.Rules.{rules}
 use borrow.Author.Tests.{not-true, not-false}
-use Rattle.devices.specs.Cases.{cases}
+use Rattle.devices.proofs.Laws.Cases.{cases}
 use Rattle.script.proofs.record.Lines.{shared_zero, shared_written}
 use Rattle.script.proofs.record.Fields.kinds_4_to_7.Statement.{statement}
 use Rattle.script.proofs.record.Fields.kinds_4_to_7.Tie as tie
