@@ -9,8 +9,8 @@ loop-i-init c = (search rules, search rules, refl, search none_written)
 
 pub loop-i-preserved : goal.loop-i-preserved
 loop-i-preserved c = (
-    search rules,
-    search rules,
-    search rules,
-    next_long _ c.loop-i.log _ c.loop-i.i _ c.loop-i.invariant.3 _ c.put_long.ensures (search rules) (search rules),
-  )
+  search rules,
+  search rules,
+  search rules,
+  next_long _ c.loop-i.log _ c.loop-i.i _ c.loop-i.invariant.3 _ c.put_long.ensures (search rules) (search rules),
+)

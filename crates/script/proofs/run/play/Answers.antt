@@ -29,14 +29,14 @@ bounds-machine-n-in-Port c = search port_there
 
 pub loop-i-preserved-in-Port : goal.loop-i-preserved-in-Port
 loop-i-preserved-in-Port c = (
-    search rules,
-    search (rules, length_of),
-    search rules,
-    one_more _ _ _ _ _ _ _ _ _ _ _ _ c.loop-i.invariant.3 c.route_at-route.ensures c.requires.machine_well_formed c.loop-i-test.true
-    c.requires.log_has_room c.put-in-Port.ensures c.of_port.ensures
-    (port_outcome _ _ _ _ _ _ _ c.in-Port.is (named_there _ _ _ (leads_there _ _ c.route_at-route.ensures) c.in-Port.is)
-    c.loop-i.invariant.1 c.call-answer.ensures c.after_port-irqmp.ensures),
-  )
+  search rules,
+  search (rules, length_of),
+  search rules,
+  one_more _ _ _ _ _ _ _ _ _ _ _ _ c.loop-i.invariant.3 c.route_at-route.ensures c.requires.machine_well_formed c.loop-i-test.true
+      c.requires.log_has_room c.put-in-Port.ensures c.of_port.ensures
+      (port_outcome _ _ _ _ _ _ _ c.in-Port.is (named_there _ _ _ (leads_there _ _ c.route_at-route.ensures) c.in-Port.is)
+      c.loop-i.invariant.1 c.call-answer.ensures c.after_port-irqmp.ensures),
+)
 
 -- a read of the timer unit, and of the controller
 pub loop-i-preserved-in-TimerUnit : goal.loop-i-preserved-in-TimerUnit
