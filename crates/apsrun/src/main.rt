@@ -2,13 +2,16 @@
 // output. It only reads, calls the library `script`, and writes. Where a read fails, it says so on standard error, writes the
 // log of the pieces before, and ends: no record is made up for what was not read. Where a write fails, it says so and ends. It takes
 // no argument: where there is one, it says how it is used and reads nothing.
-ghost use Rattle.io.specs.Counts.{IsPrefixLen};
+#![tactic(auto)]
+
+ghost use Rattle.stream.specs.Counts.{IsPrefixLen};
 
 use bus::machine::Machine;
-use libc::{STDERR_FILENO, STDIN_FILENO, STDOUT_FILENO};
 use script::format::{Format, Verdict};
 use script::run::run_piece;
 use script::{entry, format, record};
+use std::env::FillError;
+use std::rt::Env;
 use stream::Filled;
 
 // The input is read in pieces, each of a whole number of records but the last.
@@ -23,18 +26,23 @@ const GATHERED: usize = 16;
 // The log buffer.
 const LOG_BUFFER: usize = GATHERED * LOG_PIECE;
 
-fn main() {
-    if os::arg_count() == 1 {
-        run_input();
+fn main(rt: HostRuntime) {
+    if has_argument(&rt, 0) && !has_argument(&rt, 1) {
+        run_input(&rt);
     } else {
-        io::write_all(STDERR_FILENO, b"usage: apsrun < SCRIPT > LOG\n");
+        let _ = eprintln!(rt; "usage: apsrun < SCRIPT > LOG");
     }
 }
 
+// Whether there is an argument of this number. The program's own name has number 0.
+fn has_argument(rt: &HostRuntime, i: usize) -> bool {
+    !matches!(rt.arg(i, &mut []), Err(FillError::NotPresent))
+}
+
 // The header, and what follows it.
-fn run_input() {
+fn run_input(rt: &HostRuntime) {
     let mut header = [0; Format::HEADER];
-    let input = fill(&mut header);
+    let input = fill(rt, &mut header);
     let count = input.count;
     if input.failed {
         return;
@@ -42,28 +50,26 @@ fn run_input() {
     let verdict = format::judge_script(&header[..count]);
     match verdict {
         Verdict::Refused(reason) => {
-            emit(&format::refusal_line(reason));
+            emit(rt, &format::refusal_line(reason));
         }
         Verdict::Accepted => {
-            if emit(&format::log_header()) {
-                run();
+            if emit(rt, &format::log_header()) {
+                run(rt);
             }
         }
     }
 }
 
 // Runs what follows the header. The log is written out once it has no room for a further piece's, and at the end, whether the
-// input ended or a read failed. A proved loop has to end, and nothing says that the input does: the loop counts its turns down,
-// from a number that no run uses up.
-fn run() {
+// input ended or a read failed. A proved loop has to end, and nothing says that the input does: the loop counts its turns, up to
+// a number that no run uses up.
+fn run(rt: &HostRuntime) {
     let mut script = [0; PIECE];
     let mut log = [0; LOG_BUFFER];
     let mut end = 0;
     let mut machine = Machine::reset_state();
-    let mut turns = u64::MAX;
-    while 0 < turns {
-        turns -= 1;
-        let input = fill(&mut script);
+    for _ in 0..u64::MAX {
+        let input = fill(rt, &mut script);
         let count = input.count;
         if input.failed {
             break;
@@ -75,22 +81,22 @@ fn run() {
             break;
         }
         if LOG_BUFFER - LOG_PIECE < end {
-            if !emit(&log[..end]) {
+            if !emit(rt, &log[..end]) {
                 return;
             }
             end = 0;
         }
     }
-    emit(&log[..end]);
+    emit(rt, &log[..end]);
 }
 
-fn fill(buffer: &mut [u8]) -> Filled
+fn fill(rt: &HostRuntime, buffer: &mut [u8]) -> Filled
     ensures { IsPrefixLen result.count buffer.new }
 {
-    stream::fill(STDIN_FILENO, b"apsrun: stdin", buffer)
+    stream::fill(&mut rt.stdin(), b"apsrun: stdin", buffer, &mut rt.stderr())
 }
 
 // Whether all could be written.
-fn emit(bytes: &[u8]) -> bool {
-    stream::emit(STDOUT_FILENO, b"apsrun: stdout", bytes) == bytes.len()
+fn emit(rt: &HostRuntime, bytes: &[u8]) -> bool {
+    stream::emit(&mut rt.stdout(), b"apsrun: stdout", bytes, &mut rt.stderr()) == bytes.len()
 }

@@ -3,19 +3,19 @@
 use crate::{CALLS, number};
 use bus::machine::{Answer, Machine};
 
-pub(crate) fn play(which: u8) {
+pub(crate) fn play(rt: &impl Print, which: u8) {
     let mut machine = Machine::reset_state();
-    let mut sum = 0;
+    let mut sum: u64 = 0;
     let mut left = CALLS;
     while 0 < left {
         left -= 1;
         let answer = call(machine, which, left);
         machine = answer.machine;
-        sum = std::num::wrapping_add_u64(sum, answer.refusal as u64);
-        sum = std::num::wrapping_add_u64(sum, answer.value as u64);
-        sum = std::num::wrapping_add_u64(sum, answer.cycles);
+        sum = sum.wrapping_add(answer.refusal as u64);
+        sum = sum.wrapping_add(answer.value as u64);
+        sum = sum.wrapping_add(answer.cycles);
     }
-    say(sum, machine);
+    say(rt, sum, machine);
 }
 
 fn call(machine: Machine, which: u8, turn: u64) -> Answer {
@@ -61,8 +61,8 @@ fn unmoved(machine: Machine) -> Answer {
     }
 }
 
-fn say(sum: u64, machine: Machine) {
-    number(sum);
-    number(machine.read(scaler(0), 4).value as u64);
-    number(machine.read(0x8000_0300, 4).value as u64);
+fn say(rt: &impl Print, sum: u64, machine: Machine) {
+    number(rt, sum);
+    number(rt, machine.read(scaler(0), 4).value as u64);
+    number(rt, machine.read(0x8000_0300, 4).value as u64);
 }

@@ -9,8 +9,8 @@ const ADVANCE: u8 = 1;
 
 const SKIP: u8 = 2;
 
-pub(crate) fn play(which: u8) {
-    say(chosen(which));
+pub(crate) fn play(rt: &impl Print, which: u8) {
+    say(rt, chosen(which));
 }
 
 fn chosen(which: u8) -> Elapsed {
@@ -69,12 +69,12 @@ fn timer(reload: u32, ch: bool, ie: bool) -> Timer {
 
 fn calls(start: Gptimer, what: u8, cycles: u64) -> Elapsed {
     let mut unit = start;
-    let mut passed = 0;
+    let mut passed: u64 = 0;
     let mut left = CALLS;
     while 0 < left {
         let span = call(unit, what, cycles);
         unit = span.unit;
-        passed = std::num::wrapping_add_u64(passed, span.cycles);
+        passed = passed.wrapping_add(span.cycles);
         left -= 1;
     }
     Elapsed {
@@ -100,8 +100,8 @@ fn unmoved(unit: Gptimer) -> Elapsed {
     }
 }
 
-fn say(total: Elapsed) {
-    number(total.cycles);
-    number(total.unit.read(Gptimer::STRIDE).value as u64);
-    number(total.unit.read(4 * Gptimer::STRIDE).value as u64);
+fn say(rt: &impl Print, total: Elapsed) {
+    number(rt, total.cycles);
+    number(rt, total.unit.read(Gptimer::STRIDE).value as u64);
+    number(rt, total.unit.read(4 * Gptimer::STRIDE).value as u64);
 }

@@ -3,8 +3,9 @@ use crate::line::{Line, word};
 use crate::text::{fill, name};
 use devices::irqmp::{Answer, Irqmp};
 
-pub(crate) fn play(controller: Irqmp, line: Line) -> Irqmp {
+pub(crate) fn play(rt: &impl Print, controller: Irqmp, line: Line) -> Irqmp {
     name(
+        rt,
         b"r  read $;\
           w  write $ #;\
           p  set pending #;\
@@ -14,10 +15,10 @@ pub(crate) fn play(controller: Irqmp, line: Line) -> Irqmp {
           e  extended acknowledge is %\n;",
         line,
     );
-    call(controller, line)
+    call(rt, controller, line)
 }
 
-fn call(controller: Irqmp, line: Line) -> Irqmp {
+fn call(rt: &impl Print, controller: Irqmp, line: Line) -> Irqmp {
     let letter = line.letter;
     let answer = match letter {
         b'r' => controller.read(word(line.first)),
@@ -29,7 +30,7 @@ fn call(controller: Irqmp, line: Line) -> Irqmp {
         b'e' => return with_extended(controller, word(line.first)),
         _ => return controller,
     };
-    answered(answer)
+    answered(rt, answer)
 }
 
 fn with_level(mut controller: Irqmp, word: u32) -> Irqmp {
@@ -43,16 +44,18 @@ fn with_extended(mut controller: Irqmp, word: u32) -> Irqmp {
 }
 
 // Writes the answer and hands on the controller.
-fn answered(answer: Answer) -> Irqmp {
+fn answered(rt: &impl Print, answer: Answer) -> Irqmp {
     fill(
+        rt,
         b": refusal %, value %",
         [answer.refusal as u64, answer.value as u64, 0, 0],
     );
-    shown(answer.controller)
+    shown(rt, answer.controller)
 }
 
-fn shown(controller: Irqmp) -> Irqmp {
+fn shown(rt: &impl Print, controller: Irqmp) -> Irqmp {
     fill(
+        rt,
         b"; level #, pending #, force #, mask #",
         [
             controller.level as u64,
@@ -61,6 +64,6 @@ fn shown(controller: Irqmp) -> Irqmp {
             controller.mask as u64,
         ],
     );
-    fill(b", extended %\n", [controller.extended as u64, 0, 0, 0]);
+    fill(rt, b", extended %\n", [controller.extended as u64, 0, 0, 0]);
     controller
 }

@@ -22,29 +22,36 @@ const FAR_CYCLES: u32 = 140_000;
 const FAR_STRIDE: u32 = 947;
 
 // The slow run so far: what was passed up to now, and up to the first pulse.
-#[derive(Drop)]
+#[derive(Clone, Copy)]
 struct Slow {
     advance: Elapsed,
     skip: Elapsed,
 }
 
-pub(crate) fn compare() {
+pub(crate) fn compare(rt: &impl Print) {
     say(
+        rt,
         b"  small machines %",
         SMALL,
         compare_set(SMALL, 1, SMALL_CYCLES),
     );
-    say(b"  chains %", CHAINS, compare_set(CHAINS, 1, CHAINS_CYCLES));
     say(
+        rt,
+        b"  chains %",
+        CHAINS,
+        compare_set(CHAINS, 1, CHAINS_CYCLES),
+    );
+    say(
+        rt,
         b"  long spans %",
         FAR,
         compare_set(FAR, FAR_CYCLES, FAR_CYCLES),
     );
 }
 
-fn say(what: &[u8], units: u32, differences: u64) {
-    fill(what, [units as u64, 0, 0, 0]);
-    fill(b", differences %\n", [differences, 0, 0, 0]);
+fn say(rt: &impl Print, what: &[u8], units: u32, differences: u64) {
+    fill(rt, what, [units as u64, 0, 0, 0]);
+    fill(rt, b", differences %\n", [differences, 0, 0, 0]);
 }
 
 // Compares the units of a set at each cycle from `from` to `to`. How many answers differed.
@@ -158,7 +165,7 @@ fn sums(a: [u64; 4], b: [u64; 4]) -> [u64; 4] {
 }
 
 fn plus(a: u64, b: u64) -> u64 {
-    std::num::wrapping_add_u64(a, b)
+    a.wrapping_add(b)
 }
 
 // The i-th unit of a set.

@@ -1,7 +1,7 @@
 // A line of the input: a letter, and numbers in hexadecimal with a blank before each. No line is refused.
 ghost use Rattle.std.specs.Prelude.{◌≤◌, length};
 
-#[derive(Drop)]
+#[derive(Clone, Copy)]
 pub(crate) struct Line {
     pub(crate) letter: u8,
     // Its first three numbers; 0 for one that is not there.
@@ -18,12 +18,12 @@ impl Line {
             second: 0,
             third: 0,
         };
-        let mut blanks = 0;
+        let mut blanks: u64 = 0;
         let mut i = 0;
         while i < text.len() {
             let byte = text[i];
             if byte == b' ' {
-                blanks = std::num::wrapping_add_u64(blanks, 1);
+                blanks = blanks.wrapping_add(1);
             } else {
                 line = line.with(blanks, byte);
             }

@@ -3,8 +3,9 @@ use crate::line::{Line, byte, word};
 use crate::text::{fill, name};
 use bus::machine::{Answer, Machine};
 
-pub(crate) fn play(machine: Machine, line: Line) -> Machine {
+pub(crate) fn play(rt: &impl Print, machine: Machine, line: Line) -> Machine {
     name(
+        rt,
         b"r  read % at #;\
           w  write % at # #;\
           o  offer % $;\
@@ -17,10 +18,10 @@ pub(crate) fn play(machine: Machine, line: Line) -> Machine {
           l  the controller's level is #\n;",
         line,
     );
-    call(machine, line)
+    call(rt, machine, line)
 }
 
-fn call(machine: Machine, line: Line) -> Machine {
+fn call(rt: &impl Print, machine: Machine, line: Line) -> Machine {
     let letter = line.letter;
     let answer = match letter {
         b'r' => machine.read(word(line.second), byte(line.first)),
@@ -35,7 +36,7 @@ fn call(machine: Machine, line: Line) -> Machine {
         b'l' => return with_level(machine, word(line.first)),
         _ => return machine,
     };
-    answered(answer)
+    answered(rt, answer)
 }
 
 fn with_control(mut machine: Machine, port: u8, word: u32) -> Machine {
@@ -52,19 +53,27 @@ fn with_level(mut machine: Machine, word: u32) -> Machine {
 }
 
 // Writes the answer and hands on the machine.
-fn answered(answer: Answer) -> Machine {
-    outcome(answer.refusal, answer.emitted, answer.byte, answer.levels);
+fn answered(rt: &impl Print, answer: Answer) -> Machine {
+    outcome(
+        rt,
+        answer.refusal,
+        answer.emitted,
+        answer.byte,
+        answer.levels,
+    );
     fill(
+        rt,
         b", value #, cycles %",
         [answer.value as u64, answer.cycles, 0, 0],
     );
     let pulses = answer.pulses;
-    fill(b", pulses % % % %\n", pulses);
+    fill(rt, b", pulses % % % %\n", pulses);
     answer.machine
 }
 
-fn outcome(refusal: u8, emitted: bool, byte: u8, levels: u8) {
+fn outcome(rt: &impl Print, refusal: u8, emitted: bool, byte: u8, levels: u8) {
     fill(
+        rt,
         b": number %, emitted % $, levels $",
         [refusal as u64, emitted as u64, byte as u64, levels as u64],
     );

@@ -17,6 +17,8 @@
 // puts the word into a port's CONTROL, `q COUNT` has a port's queue claim so many bytes, `l WORD` and `e WORD` put the word into
 // the controller's level, also on a machine, and into its extended acknowledge. An empty line is passed over, and any other is
 // answered with a question mark.
+#![tactic(auto)]
+
 mod controller;
 mod cycles;
 mod line;
@@ -25,12 +27,14 @@ mod port;
 mod text;
 mod unit;
 
+ghost use Rattle.std.specs.Prelude.{◌≤◌, length};
+
 use bus::machine::Machine;
 use devices::apbuart::Apbuart;
 use devices::gptimer::Gptimer;
 use devices::irqmp::Irqmp;
-use libc::STDIN_FILENO;
 use line::{Line, next};
+use std::io::Read;
 use text::{say, unknown};
 
 // What the calls are made on: the letter of the part says which of the four.
@@ -43,38 +47,52 @@ struct Bench {
     machine: Machine,
 }
 
-fn main() {
-    let mut input = io::large_buffer();
-    let count = io::read_full(STDIN_FILENO, &mut input);
-    play(&input[..count]);
+fn main(rt: HostRuntime) {
+    let mut input = [0; 65536];
+    let count = read_full(&mut rt.stdin(), &mut input);
+    play(&rt, &input[..count]);
 }
 
-fn play(text: &[u8]) {
+// Reads until the buffer is full, the input ends or a read fails. How many bytes it put at the buffer's start.
+fn read_full(input: &mut impl Read, buffer: &mut [u8]) -> usize
+    ensures { result ≤ length buffer.new }
+{
+    let mut count = 0;
+    while count < buffer.len() {
+        match input.read(&mut buffer[count..]) {
+            Ok(0) | Err(_) => break,
+            Ok(more) => count += more,
+        }
+    }
+    count
+}
+
+fn play(rt: &impl Print, text: &[u8]) {
     let mut bench = at_reset(0);
     let mut from = 0;
     while from < text.len() {
         let end = next(text, from, b'\n');
-        bench = played(bench, &text[from..end]);
+        bench = played(rt, bench, &text[from..end]);
         from = end + 1;
     }
 }
 
-fn played(bench: Bench, text: &[u8]) -> Bench {
+fn played(rt: &impl Print, bench: Bench, text: &[u8]) -> Bench {
     if text.len() == 0 {
         return bench;
     }
     let letter = text[0];
     match letter {
-        b'P' | b'U' | b'I' | b'M' | b'C' => begun(letter, text),
-        _ => called(bench, Line::read(letter, text)),
+        b'P' | b'U' | b'I' | b'M' | b'C' => begun(rt, letter, text),
+        _ => called(rt, bench, Line::read(letter, text)),
     }
 }
 
-fn begun(part: u8, title: &[u8]) -> Bench {
-    say(title);
-    say(b"\n");
+fn begun(rt: &impl Print, part: u8, title: &[u8]) -> Bench {
+    say(rt, title);
+    say(rt, b"\n");
     if part == b'C' {
-        cycles::compare();
+        cycles::compare(rt);
     }
     at_reset(part)
 }
@@ -89,14 +107,14 @@ fn at_reset(part: u8) -> Bench {
     }
 }
 
-fn called(mut bench: Bench, line: Line) -> Bench {
+fn called(rt: &impl Print, mut bench: Bench, line: Line) -> Bench {
     let part = bench.part;
     match part {
-        b'P' => bench.port = port::play(bench.port, line),
-        b'U' => bench.unit = unit::play(bench.unit, line),
-        b'I' => bench.controller = controller::play(bench.controller, line),
-        b'M' => bench.machine = machine::play(bench.machine, line),
-        _ => unknown(),
+        b'P' => bench.port = port::play(rt, bench.port, line),
+        b'U' => bench.unit = unit::play(rt, bench.unit, line),
+        b'I' => bench.controller = controller::play(rt, bench.controller, line),
+        b'M' => bench.machine = machine::play(rt, bench.machine, line),
+        _ => unknown(rt),
     }
     bench
 }

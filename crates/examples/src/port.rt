@@ -3,8 +3,9 @@ use crate::line::{Line, byte, word};
 use crate::text::{fill, name};
 use devices::apbuart::{Answer, Apbuart};
 
-pub(crate) fn play(port: Apbuart, line: Line) -> Apbuart {
+pub(crate) fn play(rt: &impl Print, port: Apbuart, line: Line) -> Apbuart {
     name(
+        rt,
         b"r  read $;\
           w  write $ #;\
           o  offer $;\
@@ -13,10 +14,10 @@ pub(crate) fn play(port: Apbuart, line: Line) -> Apbuart {
           q  the queue claims %\n;",
         line,
     );
-    call(port, line)
+    call(rt, port, line)
 }
 
-fn call(port: Apbuart, line: Line) -> Apbuart {
+fn call(rt: &impl Print, port: Apbuart, line: Line) -> Apbuart {
     let letter = line.letter;
     let answer = match letter {
         b'r' => port.read(word(line.first)),
@@ -27,7 +28,7 @@ fn call(port: Apbuart, line: Line) -> Apbuart {
         b'q' => return with_count(port, byte(line.first)),
         _ => return port,
     };
-    answered(answer)
+    answered(rt, answer)
 }
 
 fn with_control(mut port: Apbuart, word: u32) -> Apbuart {
@@ -41,9 +42,10 @@ fn with_count(mut port: Apbuart, count: u8) -> Apbuart {
 }
 
 // Writes the answer and hands on the port.
-fn answered(answer: Answer) -> Apbuart {
+fn answered(rt: &impl Print, answer: Answer) -> Apbuart {
     let port = answer.port;
     shown(
+        rt,
         answer.refusal,
         answer.value,
         answer.emitted,
@@ -53,13 +55,14 @@ fn answered(answer: Answer) -> Apbuart {
     port
 }
 
-fn shown(refusal: u8, value: u32, emitted: bool, byte: u8, level: bool) {
+fn shown(rt: &impl Print, refusal: u8, value: u32, emitted: bool, byte: u8, level: bool) {
     fill(
+        rt,
         b": refusal %, value #",
         [refusal as u64, value as u64, 0, 0],
     );
     if emitted {
-        fill(b", emitted $", [byte as u64, 0, 0, 0]);
+        fill(rt, b", emitted $", [byte as u64, 0, 0, 0]);
     }
-    fill(b", level %\n", [level as u64, 0, 0, 0]);
+    fill(rt, b", level %\n", [level as u64, 0, 0, 0]);
 }

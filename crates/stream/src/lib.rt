@@ -1,10 +1,11 @@
-// Reading and writing by file descriptor, for programs. A call that fails says so on standard error, by the name that it is given.
-// A proved loop has to end, and nothing says that a file does: the loops count their turns down, from a number that no run uses
-// up.
-ghost use Rattle.std.specs.Prelude.{◌≤◌, length};
-ghost use Rattle.io.specs.Counts.{IsPrefixLen};
+// Reading and writing, for programs. A call that fails says so on standard error, by the name that it is given. A proved loop has to
+// end, and nothing says that a file does: the loops count their turns, up to a number that no run uses up.
+#![tactic(auto)]
 
-use libc::STDERR_FILENO;
+ghost use Rattle.std.specs.Prelude.{◌≤◌, length};
+ghost use Rattle.stream.specs.Counts.{IsPrefixLen};
+
+use std::io::{Cursor, Error, ErrorKind, Read, Write};
 
 // What came of filling a buffer.
 #[derive(Drop)]
@@ -16,36 +17,38 @@ pub struct Filled {
 
 // Reads until the buffer is full or the input ends. A read may bring fewer bytes than were asked for, and one that a signal
 // interrupts is made again.
-pub fn fill(fd: i32, name: &[u8], buffer: &mut [u8]) -> Filled
+pub fn fill<R: Read, E: Write>(
+    reader: &mut R,
+    name: &[u8],
+    buffer: &mut [u8],
+    stderr: &mut E,
+) -> Filled
     ensures { IsPrefixLen result.count buffer.new }
 {
     let mut count = 0;
-    let mut turns = u64::MAX;
-    while 0 < turns {
-        turns -= 1;
+    for _ in 0..u64::MAX {
         if buffer.len() <= count {
             return Filled {
                 count,
                 failed: false,
             };
         }
-        let got = libc::read(fd, &mut buffer[count..]);
-        if got == 0 {
-            return Filled {
-                count,
-                failed: false,
-            };
-        }
-        if got < 0 {
-            if os::errno() != libc::EINTR {
-                os::fail(name);
+        match reader.read(&mut buffer[count..]) {
+            Ok(0) => {
+                return Filled {
+                    count,
+                    failed: false,
+                };
+            }
+            Ok(got) => count += got,
+            Err(error) if error.kind() == ErrorKind::Interrupted => {}
+            Err(error) => {
+                fail(name, &error, stderr);
                 return Filled {
                     count,
                     failed: true,
                 };
             }
-        } else {
-            count += io::count(got, &buffer[count..]);
         }
     }
     Filled {
@@ -56,30 +59,58 @@ pub fn fill(fd: i32, name: &[u8], buffer: &mut [u8]) -> Filled
 
 // Writes the bytes, and answers how many it could: fewer than all where a write failed. A write may take fewer than it was given,
 // and one that a signal interrupts is made again.
-pub fn emit(fd: i32, name: &[u8], bytes: &[u8]) -> usize
+pub fn emit<W: Write, E: Write>(writer: &mut W, name: &[u8], bytes: &[u8], stderr: &mut E) -> usize
     ensures { result ≤ length bytes.now }
 {
     let mut count = 0;
-    let mut turns = u64::MAX;
-    while 0 < turns {
-        turns -= 1;
+    for _ in 0..u64::MAX {
         if bytes.len() <= count {
             return count;
         }
-        let put = libc::write(fd, &bytes[count..]);
-        if put == 0 {
-            io::write_all(STDERR_FILENO, name);
-            io::write_all(STDERR_FILENO, b": nothing could be written\n");
-            return count;
-        }
-        if put < 0 {
-            if os::errno() != libc::EINTR {
-                os::fail(name);
+        match writer.write(&bytes[count..]) {
+            Ok(0) => {
+                say(name, b"nothing could be written", stderr);
                 return count;
             }
-        } else {
-            count += io::count(put, &bytes[count..]);
+            Ok(put) => count += put,
+            Err(error) if error.kind() == ErrorKind::Interrupted => {}
+            Err(error) => {
+                fail(name, &error, stderr);
+                return count;
+            }
         }
     }
     count
+}
+
+// Writes a line to standard error: what failed, as the caller names it, and the system's words for the error.
+pub fn fail<E: Write>(name: &[u8], error: &Error, stderr: &mut E) {
+    let mut room = Cursor::new([0; ROOM]);
+    let _ = write!(room, "{error}");
+    let length = (room.position() as usize).min(ROOM);
+    let text = room.into_inner();
+    if error.raw_os_error().is_some() {
+        say(name, without_number(&text[..length]), stderr);
+    } else {
+        say(name, &text[..length], stderr);
+    }
+}
+
+// Room for an error's text.
+const ROOM: usize = 128;
+
+// The text of one of the system's errors ends with its number, as in ` (os error 5)`: what stands before it.
+fn without_number(text: &[u8]) -> &[u8] {
+    match text.iter().rposition(|byte| *byte == b'(') {
+        Some(at) if 0 < at => &text[..at - 1],
+        _ => text,
+    }
+}
+
+// Writes a line to standard error. What cannot be written is left out.
+fn say<E: Write>(name: &[u8], words: &[u8], stderr: &mut E) {
+    let _ = stderr.write_all(name);
+    let _ = stderr.write_all(b": ");
+    let _ = stderr.write_all(words);
+    let _ = stderr.write_all(b"\n");
 }
