@@ -8,7 +8,7 @@ ghost use Rattle.stream.specs.Counts.{IsPrefixLen};
 use std::io::{Cursor, Error, ErrorKind, Read, Write};
 
 // What came of filling a buffer.
-#[derive(Drop)]
+#[derive(Clone, Copy)]
 pub struct Filled {
     // How many bytes came: fewer than the buffer holds where the input ended, or where a read failed.
     pub count: usize,
