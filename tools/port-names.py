@@ -92,7 +92,7 @@ def respelled(text, names):
 
 
 ATOM = r"(?:\((?:[^()]|\((?:[^()]|\([^()]*\))*\))*\)|[\w.']+)"
-EQUAL = re.compile(r"(?<![\w'-])eqb (" + ATOM + r") (" + ATOM + r")(?: (≡))?")
+EQUAL = re.compile(r"(?<![\w'.-])eqb (" + ATOM + r") (" + ATOM + r")(?: (≡))?")
 TESTS = {"ltb": "nat_lt", "leb": "nat_le"}
 
 
