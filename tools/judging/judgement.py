@@ -209,21 +209,12 @@ def one_at_a_time(root):
 
 
 def prove(root):
-    """Has the programs proved and built. Where they are and nothing has changed since, that takes a moment."""
-    for program in PROGRAMS:
-        # rt looks at the sources and not at what it made of them: a program that is missing, or newer than the note that it is
-        # proved, is built once more.
-        made, note = os.path.join(root, "target/bin", program), os.path.join(root, "target/stamp", program)
-        if os.path.exists(note) and not (os.path.exists(made) and os.path.getmtime(made) <= os.path.getmtime(note)):
-            os.remove(note)
+    """Has the programs proved and built (tools/build). Where they are and nothing has changed since, that takes a moment."""
     late = threading.Timer(10, print, ["tools/judge: proving the reference programs, which takes some minutes .."],
                            {"file": sys.stderr, "flush": True})
     late.daemon = True
-    try:
-        prover = subprocess.Popen(["rt", "check", *PROGRAMS], cwd=root, stdin=subprocess.DEVNULL, stdout=subprocess.PIPE,
-                                  stderr=subprocess.STDOUT, start_new_session=True)
-    except OSError as error:
-        raise NotJudged(f"the reference programs cannot be proved: rt: {error.strerror}") from None
+    prover = subprocess.Popen([sys.executable, os.path.join(root, "tools/build"), *PROGRAMS], stdin=subprocess.DEVNULL,
+                              stdout=subprocess.PIPE, stderr=subprocess.STDOUT, start_new_session=True)
     late.start()
     try:
         said = prover.communicate()[0].decode("utf-8", "replace").strip().split("\n")
@@ -231,5 +222,7 @@ def prove(root):
         late.cancel()
         if prover.poll() is None:
             runs.end_group(prover)
+    if prover.returncode == 1:
+        raise NotJudged("the reference programs are not proved; tools/build says:\n" + "\n".join(said[-10:]))
     if prover.returncode:
-        raise NotJudged("the reference programs are not proved; rt check says:\n" + "\n".join(said[-10:]))
+        raise NotJudged("the reference programs cannot be proved: " + "\n".join(said[-10:]))
