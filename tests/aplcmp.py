@@ -623,7 +623,7 @@ for data, line in ALONE:
 case("one argument, a missing file", [Name(place("missing"))], "refused 1 11", message=None)
 for more in ([place("first")], [""], [place("missing"), place("first")]):
     case(f"two logs alike and {len(more)} more arguments", [log(3), log(3)], b"", message=True, more=more)
-# Names that are no others': without a folder, with a stroke or a blank, of bytes that are no letters, and as long as may be.
+# Names that are no others': without a folder, with a stroke or a blank, of letters of several bytes, and as long as may be.
 case("an empty name and 3 records", [Name(""), log(3)], "refused 1 11", message=None)
 case("3 records and an empty name", [log(3), Name("")], "refused 2 11", message=None)
 case("/dev/null and 3 records", [Name("/dev/null"), log(3)], "refused 1 11")
@@ -633,10 +633,15 @@ put("other", log(4))
 case("names without a folder", [Name("first"), Name("other")], "beginning 1", folder=FOLDER)
 case("a path of 4095 bytes and 4 records", [Name(path_of(4095)), log(4)], "beginning 1")
 case("4 records and a path of 4095 bytes", [Name(place("other")), Name(path_of(4095))], "beginning 2")
-for name in ("-", "--", "-v", "--help", "a b", " ", "a\nb", "'", "*", "%s%n", "1", b"\xff\xfe\x80", 255 * "a"):
+for name in ("-", "--", "-v", "--help", "a b", " ", "a\nb", "'", "*", "%s%n", "1", "\u00e9\u20ac\U0001f50c", 255 * "a"):
     os.link(place("other"), os.path.join(os.fsencode(FOLDER), os.fsencode(name)))
     case(f"the log {name!r:.20} and 3 records", [Name(name), log(3)], "beginning 2", folder=FOLDER)
     case(f"3 records and the log {name!r:.20}", [log(3), Name(name)], "beginning 1", folder=FOLDER)
+# The library by which the program opens files takes no name that is not UTF-8 text: such a log cannot be opened.
+for name in (b"\xff\xfe\x80", b"a\x80", b"\xed\xa0\x80"):
+    os.link(place("other"), os.path.join(os.fsencode(FOLDER), name))
+    unreadable(f"the log {name!r} and 3 records", 1, Name(name), log(3), folder=FOLDER)
+    unreadable(f"3 records and the log {name!r}", 2, log(3), Name(name), folder=FOLDER)
 
 # 11. Writes that fall short or are interrupted show in nothing. Where one fails, a message says so, and what was written is a
 # beginning of the line.
