@@ -1,7 +1,7 @@
 # make build  prove the programs, and put them into target/bin
 # make demo   prove the model, name what is proved, and have a right and a wrong simulator judged
 # make test   every check, from nothing; the last line is 'N passed, M failed'
-# make edits CRATE=bus   the wider set of that crate's must-fail edits, which make test passes over; without CRATE, of every crate
+# make edits CRATE=bus   that crate's must-fail edits alone, and the error that refuses each; without CRATE, of every crate
 .PHONY: build demo test edits
 
 build:
