@@ -4,7 +4,7 @@
 // and no verdict.
 #![tactic(auto)]
 
-ghost use Rattle.std.specs.Prelude.{◌≡◌, ◌≤◌, length};
+ghost use Rattle.std.specs.Prelude.{◌≡◌, ◌≤◌, length, IfOk, IfSome, IfErr};
 ghost use Rattle.stream.specs.Counts.{IsPrefixLen};
 
 use compare::comparison::Comparison;
@@ -17,15 +17,12 @@ use std::fs::File;
 use std::io::{Error, ErrorKind};
 use std::rt::Env;
 use std::str::from_utf8;
-use stream::Filled;
+use stream::Failed;
 
 // Each log is read in pieces of a whole number of records, as many as 64 KiB have: they are taken whole as long as both logs go on.
 const PIECE: usize = 1365 * entry::LENGTH;
 
-// What a message begins with.
-const PROGRAM: [u8; BEFORE] = [b'a', b'p', b'l', b'c', b'm', b'p', b':', b' '];
-
-// Its length: the name of a log stands behind it.
+// How many bytes a message begins with, before the name of a log: those of `aplcmp: `.
 const BEFORE: usize = 8;
 
 // The longest path that the system takes, with the 0 that it ends it with.
@@ -37,11 +34,26 @@ const NAME: usize = BEFORE + PATH_MAX;
 // The system's number for a name that is too long.
 const TOO_LONG: i32 = 36;
 
-// A log's file, where it could be opened, and how many bytes a message names it by.
+// What a message names a log by.
 #[derive(Drop)]
-struct Opened {
+struct Name {
+    bytes: [u8; NAME],
+    length: usize,
+    ghost within: { length ≤ 4104 },
+}
+
+impl Name {
+    fn as_bytes(&self) -> &[u8] {
+        &self.bytes[..self.length]
+    }
+}
+
+// A log that an argument names, and its file, where it could be opened.
+#[derive(Drop)]
+struct Source {
+    log: Log,
+    name: Name,
     file: Option<File>,
-    named: usize,
 }
 
 fn main(rt: HostRuntime) {
@@ -54,7 +66,8 @@ fn main(rt: HostRuntime) {
     }
 }
 
-// Whether there is an argument of this number. The program's own name has number 0.
+// Whether there is an argument of this number. The program's own name has number 0. (`apsrun` has the same of its own: a public
+// function wants a promise, and no contract can say which arguments there are.)
 fn has_argument(rt: &HostRuntime, i: usize) -> bool {
     !matches!(rt.arg(i, &mut []), Err(FillError::NotPresent))
 }
@@ -71,60 +84,81 @@ fn say(rt: &HostRuntime, verdict: Verdict) {
 }
 
 fn compare_named(rt: &HostRuntime) -> Verdict {
-    let mut name_1 = name();
-    let mut name_2 = name();
-    let mut first = open(rt, 1, &mut name_1);
-    let mut second = open(rt, 2, &mut name_2);
-    let length_1 = first.named;
-    let length_2 = second.named;
-    compare(
-        rt,
-        &mut first.file,
-        &name_1[..length_1],
-        &mut second.file,
-        &name_2[..length_2],
-    )
+    let mut first = Source::open(rt, Log::First, 1);
+    let mut second = Source::open(rt, Log::Second, 2);
+    compare(rt, &mut first, &mut second)
 }
 
-// A buffer for how a message names a log.
-fn name() -> [u8; NAME]
-    ensures { 4104 ≡ length result }
-{
-    let mut name = [0; NAME];
-    let mut i = 0;
-    while i < BEFORE {
-        name[i] = PROGRAM[i];
-        i += 1;
+impl Source {
+    // The log that the argument of this number names.
+    fn open(rt: &HostRuntime, log: Log, i: usize) -> Self {
+        let mut bytes = [0; NAME];
+        bytes[..BEFORE].copy_from_slice(b"aplcmp: ");
+        let (length, file) = match rt.arg(i, &mut bytes[BEFORE..]) {
+            Ok(length) => {
+                let end = BEFORE + length;
+                (end, open_named(rt, &bytes[..end]))
+            }
+            // The argument is missing, and main has said so.
+            Err(FillError::NotPresent) => (0, None),
+            Err(FillError::TooLong) => {
+                let error = Error::from_raw_os_error(TOO_LONG);
+                stream::fail(b"aplcmp: the name of a log", &error, &mut rt.stderr());
+                (0, None)
+            }
+        };
+        Source {
+            log,
+            name: Name { bytes, length },
+            file,
+        }
     }
-    name
-}
 
-// Opens the log that an argument names, and puts that name into the buffer.
-fn open(rt: &HostRuntime, i: usize, name: &mut [u8]) -> Opened
-    requires { 8 ≤ length name.old }
-    ensures { IsPrefixLen result.named name.new }
-{
-    match rt.arg(i, &mut name[BEFORE..]) {
-        // The argument is missing, and main has said so.
-        Err(FillError::NotPresent) => Opened {
-            file: None,
-            named: 0,
-        },
-        Err(FillError::TooLong) => {
-            let error = Error::from_raw_os_error(TOO_LONG);
-            stream::fail(b"aplcmp: the name of a log", &error, &mut rt.stderr());
-            Opened {
-                file: None,
-                named: 0,
+    // A log that could not be opened is empty.
+    fn read(&mut self, rt: &HostRuntime, buffer: &mut [u8]) -> Result<usize, Failed>
+        ensures ok { IfOk result (λ count. IsPrefixLen count buffer.new) }
+        ensures err { IfErr result (λ failed. IsPrefixLen failed.count buffer.new) }
+    {
+        match &mut self.file {
+            None => Ok(0),
+            Some(file) => stream::fill(file, self.name.as_bytes(), buffer, &mut rt.stderr()),
+        }
+    }
+
+    // A log whose header cannot be read counts as empty.
+    fn read_header(&mut self, rt: &HostRuntime, header: &mut [u8]) -> usize
+        ensures { IsPrefixLen result header.new }
+    {
+        self.read(rt, header).unwrap_or(0)
+    }
+
+    // Reads the log to its end, from what lies in the window between `from` and `to`, and leaves at the window's start what the
+    // verdict depends on, unless a read fails. Where the window is not full, the log has ended already, and is not read again.
+    fn read_rest(
+        &mut self,
+        rt: &HostRuntime,
+        left: &[u8],
+        window: &mut [u8],
+        from: usize,
+        to: usize,
+    ) -> Option<usize>
+        requires from_le_to { from ≤ to }
+        requires to_in_bounds { to ≤ length window.old }
+        ensures { IfSome result (λ count. IsPrefixLen count window.new) }
+    {
+        let mut count = keep(window, from, to);
+        if to < window.len() {
+            return Some(count);
+        }
+        for _ in 0..u64::MAX {
+            let over = comparison::surplus(left, &window[..count]);
+            count = keep(window, over, count);
+            count += self.read(rt, &mut window[count..]).ok()?;
+            if count < window.len() {
+                return Some(count);
             }
         }
-        Ok(length) => {
-            let named = BEFORE + length;
-            Opened {
-                file: open_named(rt, &name[..named]),
-                named,
-            }
-        }
+        None
     }
 }
 
@@ -145,46 +179,16 @@ fn open_named(rt: &HostRuntime, name: &[u8]) -> Option<File>
     }
 }
 
-// A log that could not be opened is empty.
-fn read(rt: &HostRuntime, file: &mut Option<File>, name: &[u8], buffer: &mut [u8]) -> Filled
-    ensures { IsPrefixLen result.count buffer.new }
-{
-    match file {
-        None => Filled {
-            count: 0,
-            failed: false,
-        },
-        Some(file) => stream::fill(file, name, buffer, &mut rt.stderr()),
-    }
-}
-
-// A log whose header cannot be read counts as empty.
-fn read_header(rt: &HostRuntime, file: &mut Option<File>, name: &[u8], header: &mut [u8]) -> usize
-    ensures { IsPrefixLen result header.new }
-{
-    let filled = read(rt, file, name, header);
-    if filled.failed {
-        return 0;
-    }
-    filled.count
-}
-
 // The headers, and what is behind them.
-fn compare(
-    rt: &HostRuntime,
-    file_1: &mut Option<File>,
-    name_1: &[u8],
-    file_2: &mut Option<File>,
-    name_2: &[u8],
-) -> Verdict {
-    let mut first = [0; Format::HEADER];
-    let mut second = [0; Format::HEADER];
-    let count_1 = read_header(rt, file_1, name_1, &mut first);
-    let count_2 = read_header(rt, file_2, name_2, &mut second);
-    let begun = Comparison::begin(&first[..count_1], &second[..count_2]);
+fn compare(rt: &HostRuntime, first: &mut Source, second: &mut Source) -> Verdict {
+    let mut header_1 = [0; Format::HEADER];
+    let mut header_2 = [0; Format::HEADER];
+    let count_1 = first.read_header(rt, &mut header_1);
+    let count_2 = second.read_header(rt, &mut header_2);
+    let begun = Comparison::begin(&header_1[..count_1], &header_2[..count_2]);
     match begun {
         Comparison::Decided(verdict) => verdict,
-        Comparison::Undecided(_) => compare_records(rt, begun, file_1, name_1, file_2, name_2),
+        Comparison::Undecided(_) => compare_records(rt, begun, first, second),
     }
 }
 
@@ -193,65 +197,51 @@ fn compare(
 fn compare_records(
     rt: &HostRuntime,
     begun: Comparison,
-    file_1: &mut Option<File>,
-    name_1: &[u8],
-    file_2: &mut Option<File>,
-    name_2: &[u8],
+    first: &mut Source,
+    second: &mut Source,
 ) -> Verdict {
-    let mut first = [0; PIECE];
-    let mut second = [0; PIECE];
+    let mut window_1 = [0; PIECE];
+    let mut window_2 = [0; PIECE];
     let mut comparison = begun;
     for _ in 0..u64::MAX {
-        let read_1 = read(rt, file_1, name_1, &mut first);
-        let read_2 = read(rt, file_2, name_2, &mut second);
-        let count_1 = read_1.count;
-        let count_2 = read_2.count;
-        let step = comparison.next(&first[..count_1], &second[..count_2]);
+        let read_1 = first.read(rt, &mut window_1);
+        let read_2 = second.read(rt, &mut window_2);
+        let count_1 = came(read_1);
+        let count_2 = came(read_2);
+        let step = comparison.next(&window_1[..count_1], &window_2[..count_2]);
         let taken = step.taken;
         comparison = step.comparison;
-        match comparison {
-            Comparison::Decided(verdict) => return verdict,
-            Comparison::Undecided(_) => {}
+        if let Comparison::Decided(verdict) = comparison {
+            return verdict;
         }
         // What came before a read that failed has been compared. Where both failed, the log that did so first is named.
-        if read_1.failed {
-            if read_2.failed {
-                return Verdict::unreadable(earlier(count_1, count_2));
-            }
-            return Verdict::unreadable(Log::First);
-        }
-        if read_2.failed {
-            return Verdict::unreadable(Log::Second);
+        match (read_1, read_2) {
+            (Ok(_), Ok(_)) => {}
+            (Err(_), Ok(_)) => return Verdict::unreadable(Log::First),
+            (Ok(_), Err(_)) => return Verdict::unreadable(Log::Second),
+            (Err(_), Err(_)) => return Verdict::unreadable(earlier(count_1, count_2)),
         }
         if count_1 < PIECE {
-            return end_other(
-                rt,
-                comparison,
-                Log::Second,
-                &first[taken..count_1],
-                file_2,
-                name_2,
-                &mut second,
-                taken,
-                count_2,
-            );
+            let left = &window_1[taken..count_1];
+            return end_other(rt, comparison, left, second, &mut window_2, taken, count_2);
         }
         if count_2 < PIECE {
-            return end_other(
-                rt,
-                comparison,
-                Log::First,
-                &second[taken..count_2],
-                file_1,
-                name_1,
-                &mut first,
-                taken,
-                count_1,
-            );
+            let left = &window_2[taken..count_2];
+            return end_other(rt, comparison, left, first, &mut window_1, taken, count_1);
         }
     }
     // No run comes here.
     Verdict::unreadable(Log::First)
+}
+
+// How many bytes came, whether or not a read failed behind them.
+fn came(read: Result<usize, Failed>) -> usize
+    ensures ok { IfOk read (λ count. result ≡ count) }
+    ensures err { IfErr read (λ failed. result ≡ failed.count) }
+{
+    match read {
+        Ok(count) | Err(Failed { count }) => count,
+    }
 }
 
 // The log of which fewer bytes came, or the first.
@@ -267,10 +257,8 @@ fn earlier(count_1: usize, count_2: usize) -> Log {
 fn end_other(
     rt: &HostRuntime,
     comparison: Comparison,
-    other: Log,
     left: &[u8],
-    file: &mut Option<File>,
-    name: &[u8],
+    other: &mut Source,
     window: &mut [u8],
     from: usize,
     to: usize,
@@ -278,54 +266,12 @@ fn end_other(
     requires from_le_to { from ≤ to }
     requires to_in_bounds { to ≤ length window.old }
 {
-    let rest = read_rest(rt, left, file, name, window, from, to);
-    let count = rest.count;
-    if rest.failed {
-        return Verdict::unreadable(other);
-    }
-    match other {
+    let Some(count) = other.read_rest(rt, left, window, from, to) else {
+        return Verdict::unreadable(other.log);
+    };
+    match other.log {
         Log::First => comparison.end(&window[..count], left),
         Log::Second => comparison.end(left, &window[..count]),
-    }
-}
-
-// Reads a log to its end, from what lies in the window between `from` and `to`, and leaves at the window's start what the verdict
-// depends on. Where the window is not full, the log has ended already, and is not read again.
-fn read_rest(
-    rt: &HostRuntime,
-    left: &[u8],
-    file: &mut Option<File>,
-    name: &[u8],
-    window: &mut [u8],
-    from: usize,
-    to: usize,
-) -> Filled
-    requires from_le_to { from ≤ to }
-    requires to_in_bounds { to ≤ length window.old }
-    ensures { IsPrefixLen result.count window.new }
-{
-    let mut count = keep(window, from, to);
-    if to < window.len() {
-        return Filled {
-            count,
-            failed: false,
-        };
-    }
-    for _ in 0..u64::MAX {
-        let over = comparison::surplus(left, &window[..count]);
-        count = keep(window, over, count);
-        let more = read(rt, file, name, &mut window[count..]);
-        count += more.count;
-        if count < window.len() {
-            return Filled {
-                count,
-                failed: more.failed,
-            };
-        }
-    }
-    Filled {
-        count,
-        failed: true,
     }
 }
 
@@ -335,11 +281,6 @@ fn keep(window: &mut [u8], from: usize, to: usize) -> usize
     requires to_in_bounds { to ≤ length window.old }
     ensures { IsPrefixLen result window.new }
 {
-    let count = to - from;
-    let mut i = 0;
-    while i < count {
-        window[i] = window[from + i];
-        i += 1;
-    }
-    count
+    window.copy_within(from..to, 0);
+    to - from
 }

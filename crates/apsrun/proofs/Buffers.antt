@@ -10,6 +10,7 @@ use Rattle.script.specs.Pieces.{log_length}
 use Rattle.script.specs.View.{Conforms}
 use Rattle.script.proofs.Laws.View.{piece_room}
 use Rattle.script.specs.declared.run.Ran.{Ran}
+use Rattle.stream.specs.Laws.{front_length}
 
 -- The length of the log buffer: that of GATHERED pieces' logs.
 abbrev pub buffer_length : ℕ
@@ -20,14 +21,6 @@ pub back_length :
     (end n : ℕ) (log bytes : List ℕ) → length bytes ≡ length (mid_of end n log) → length log ≡ buffer_length →
     length (put_mid end n log bytes) ≡ buffer_length
 back_length end n log bytes e f = same_len_mid end n log bytes e ∙ f
-
--- The loop keeps room in it for a further piece's log.
-pub end_before : (end : ℕ) (log : List ℕ) → end + log_length ≤ buffer_length → length log ≡ buffer_length → end ≤ length log
-end_before end log h e = omega arith
-
-pub same_within :
-    {end end' : ℕ} {log log' : List ℕ} → log ≡ log' → end ≡ end' → end' ≤ length log' → end ≤ length log
-same_within e f h = rw (e, f) h
 
 -- What a piece logs ends in the part of the log that it is lent.
 module _
@@ -47,3 +40,5 @@ module _
       end + log_length ≤ buffer_length → length log ≡ buffer_length → length bytes ≡ length (mid_of end (buffer_length - end) log) →
       end + entry_length * r.done ≤ length (put_mid end (buffer_length - end) log bytes)
   end_in h e f = omega (arith, end_within h e, back_length end (buffer_length - end) log bytes f e)
+
+pub ruleset buffers = (front_length, end_in)

@@ -4,15 +4,16 @@
 // no argument: where there is one, it says how it is used and reads nothing.
 #![tactic(auto)]
 
+ghost use Rattle.std.specs.Prelude.{IfOk};
 ghost use Rattle.stream.specs.Counts.{IsPrefixLen};
 
 use bus::machine::Machine;
-use script::format::{Format, Verdict};
+use script::format::Format;
 use script::run::run_piece;
 use script::{entry, format, record};
 use std::env::FillError;
 use std::rt::Env;
-use stream::Filled;
+use stream::Failed;
 
 // The input is read in pieces, each of a whole number of records but the last.
 const PIECE: usize = 4096;
@@ -34,7 +35,8 @@ fn main(rt: HostRuntime) {
     }
 }
 
-// Whether there is an argument of this number. The program's own name has number 0.
+// Whether there is an argument of this number. The program's own name has number 0. (`aplcmp` has the same of its own: a public
+// function wants a promise, and no contract can say which arguments there are.)
 fn has_argument(rt: &HostRuntime, i: usize) -> bool {
     !matches!(rt.arg(i, &mut []), Err(FillError::NotPresent))
 }
@@ -42,17 +44,14 @@ fn has_argument(rt: &HostRuntime, i: usize) -> bool {
 // The header, and what follows it.
 fn run_input(rt: &HostRuntime) {
     let mut header = [0; Format::HEADER];
-    let input = fill(rt, &mut header);
-    let count = input.count;
-    if input.failed {
+    let Ok(count) = fill(rt, &mut header) else {
         return;
-    }
-    let verdict = format::judge_script(&header[..count]);
-    match verdict {
-        Verdict::Refused(reason) => {
+    };
+    match format::judge_script(&header[..count]) {
+        Err(reason) => {
             emit(rt, &format::refusal_line(reason));
         }
-        Verdict::Accepted => {
+        Ok(()) => {
             if emit(rt, &format::log_header()) {
                 run(rt);
             }
@@ -63,17 +62,16 @@ fn run_input(rt: &HostRuntime) {
 // Runs what follows the header. The log is written out once it has no room for a further piece's, and at the end, whether the
 // input ended or a read failed. A proved loop has to end, and nothing says that the input does: the loop counts its turns, up to
 // a number that no run uses up.
+#[tactic(auto, using(crate::proofs::Buffers::buffers))]
 fn run(rt: &HostRuntime) {
     let mut script = [0; PIECE];
     let mut log = [0; LOG_BUFFER];
     let mut end = 0;
     let mut machine = Machine::reset_state();
     for _ in 0..u64::MAX {
-        let input = fill(rt, &mut script);
-        let count = input.count;
-        if input.failed {
+        let Ok(count) = fill(rt, &mut script) else {
             break;
-        }
+        };
         let ran = run_piece(machine, &script[..count], &mut log[end..]);
         machine = ran.machine;
         end += entry::LENGTH * ran.done;
@@ -90,8 +88,8 @@ fn run(rt: &HostRuntime) {
     emit(rt, &log[..end]);
 }
 
-fn fill(rt: &HostRuntime, buffer: &mut [u8]) -> Filled
-    ensures { IsPrefixLen result.count buffer.new }
+fn fill(rt: &HostRuntime, buffer: &mut [u8]) -> Result<usize, Failed>
+    ensures { IfOk result (λ count. IsPrefixLen count buffer.new) }
 {
     stream::fill(&mut rt.stdin(), b"apsrun: stdin", buffer, &mut rt.stderr())
 }

@@ -6,9 +6,7 @@
 mod machine;
 mod unit;
 
-ghost use Rattle.std.specs.Prelude.{◌≤◌, length};
-
-use std::io::Read;
+use stream::read_full;
 
 pub(crate) const CALLS: u64 = 1_000_000;
 
@@ -20,20 +18,6 @@ fn main(rt: HostRuntime) {
         b'a'..=b'e' | b'n' => unit::play(&rt, which),
         _ => machine::play(&rt, which),
     }
-}
-
-// Reads until the buffer is full, the input ends or a read fails. How many bytes it put at the buffer's start.
-fn read_full(input: &mut impl Read, buffer: &mut [u8]) -> usize
-    ensures { result ≤ length buffer.new }
-{
-    let mut count = 0;
-    while count < buffer.len() {
-        match input.read(&mut buffer[count..]) {
-            Ok(0) | Err(_) => break,
-            Ok(more) => count += more,
-        }
-    }
-    count
 }
 
 // Writes a number and ends the line. A write that fails is passed over.

@@ -2,30 +2,20 @@
 use crate::{CALLS, number};
 use devices::gptimer::{Elapsed, Gptimer, Timer};
 
-// What a call does.
-const NOTHING: u8 = 0;
-
-const ADVANCE: u8 = 1;
-
-const SKIP: u8 = 2;
-
 pub(crate) fn play(rt: &impl Print, which: u8) {
-    say(rt, chosen(which));
-}
-
-fn chosen(which: u8) -> Elapsed {
-    match which {
+    let total = match which {
         // Advances inside the prescaler's count; one in 65,536 ticks.
-        b'a' => calls(chain(0xFFFF), ADVANCE, 1),
+        b'a' => calls(chain(0xFFFF), |unit| unit.advance(1)),
         // Advances of some ticks, and of the longest span, with four chained timers.
-        b'b' => calls(chain(3), ADVANCE, 1000),
-        b'c' => calls(chain(3), ADVANCE, u64::MAX),
+        b'b' => calls(chain(3), |unit| unit.advance(1000)),
+        b'c' => calls(chain(3), |unit| unit.advance(u64::MAX)),
         // Skips to the next pulse of one of four timers, and of the last of a chain of four.
-        b'd' => calls(periodic(), SKIP, u64::MAX),
-        b'e' => calls(chain(3), SKIP, u64::MAX),
+        b'd' => calls(periodic(), |unit| unit.skip(u64::MAX)),
+        b'e' => calls(chain(3), |unit| unit.skip(u64::MAX)),
         // Calls that only hand the unit back, to be taken off the others' time.
-        _ => calls(chain(3), NOTHING, 0),
-    }
+        _ => calls(chain(3), unmoved),
+    };
+    say(rt, total);
 }
 
 // Four timers that restart, with periods of 2, 3, 5 and 7 counts, each chained to the one before it; only the last has
@@ -46,12 +36,7 @@ fn chain(sreload: u16) -> Gptimer {
 fn periodic() -> Gptimer {
     let mut unit = Gptimer::reset_state();
     unit.sreload = 3;
-    unit.timers = [
-        timer(199, false, true),
-        timer(299, false, true),
-        timer(499, false, true),
-        timer(699, false, true),
-    ];
+    unit.timers = [199, 299, 499, 699].map(|reload| timer(reload, false, true));
     unit
 }
 
@@ -67,29 +52,16 @@ fn timer(reload: u32, ch: bool, ie: bool) -> Timer {
     }
 }
 
-fn calls(start: Gptimer, what: u8, cycles: u64) -> Elapsed {
-    let mut unit = start;
-    let mut passed: u64 = 0;
-    let mut left = CALLS;
-    while 0 < left {
-        let span = call(unit, what, cycles);
-        unit = span.unit;
-        passed = passed.wrapping_add(span.cycles);
-        left -= 1;
+fn calls<F: Fn(Gptimer) -> Elapsed>(start: Gptimer, call: F) -> Elapsed
+    requires { F.IsAlwaysCallable call }
+{
+    let mut total = unmoved(start);
+    for _ in 0..CALLS {
+        let span = call(total.unit);
+        total.unit = span.unit;
+        total.cycles = total.cycles.wrapping_add(span.cycles);
     }
-    Elapsed {
-        cycles: passed,
-        pulses: [0; 4],
-        unit,
-    }
-}
-
-fn call(unit: Gptimer, what: u8, cycles: u64) -> Elapsed {
-    match what {
-        ADVANCE => unit.advance(cycles),
-        SKIP => unit.skip(cycles),
-        _ => unmoved(unit),
-    }
+    total
 }
 
 fn unmoved(unit: Gptimer) -> Elapsed {
@@ -102,6 +74,10 @@ fn unmoved(unit: Gptimer) -> Elapsed {
 
 fn say(rt: &impl Print, total: Elapsed) {
     number(rt, total.cycles);
-    number(rt, total.unit.read(Gptimer::STRIDE).value as u64);
-    number(rt, total.unit.read(4 * Gptimer::STRIDE).value as u64);
+    number(rt, register(total.unit, Gptimer::STRIDE));
+    number(rt, register(total.unit, 4 * Gptimer::STRIDE));
+}
+
+fn register(unit: Gptimer, offset: u32) -> u64 {
+    unit.read(offset).value() as u64
 }

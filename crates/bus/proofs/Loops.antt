@@ -1,6 +1,6 @@
 -- Loops over a list. Assumes nothing.
 use Prim.Native.Nat.{ℕ, zero, suc, ◌+◌, ◌-◌, ◌≤◌, ◌<◌}
-use mathlib.Core.Path.{◌≡◌, refl}
+use mathlib.Core.Path.{◌≡◌}
 use mathlib.Core.List.{List, [], ◌∷◌}
 use native.Mathlib.Omega.{arith}
 use native.Mathlib.Nat.{suc-sub-suc, sub-zero}
@@ -25,7 +25,3 @@ module _ {A : Type 0} (l : List A) where
       (n i : ℕ) (z : A) → length l ≡ n → 0 < i → i ≤ n → drop (i - 1) l ≡ get_or l (i - 1) z ∷ drop i l
   place_before n zero z whole k m = absurd (omega arith)
   place_before n (suc j) z whole k m = rw (suc-sub-suc j 0, sub-zero j) (drop-cons l j z (omega arith))
-
-  pub all_done : (i : ℕ) → i ≤ 0 → drop i l ≡ l
-  all_done zero k = refl
-  all_done (suc j) k = absurd (omega arith)

@@ -2,8 +2,10 @@
 -- script records among them, stands in the scripts (Theorems.antt there). Most claims are about any answers and machines that
 -- meet the calls' contracts (`Conforms`, View.antt), so about what the code promises; the last ones are about the definitions.
 -- Assumes nothing.
-use Rattle.std.specs.Prelude.{ℕ, zero, suc, ◌<◌, ◌≡◌, refl, Bool, true, false, cond, not, ◌&&◌, List, [], ◌∷◌, ◌==◌, nat_le, length, get_or}
+use Rattle.std.specs.Prelude.{ℕ, zero, suc, ◌<◌, ◌≡◌, refl, Bool, true, false, cond, not, ◌&&◌, List, [], ◌∷◌, ◌==◌, nat_le, length, get_or, Some}
 use Rattle.std.proofs.Common.{sym, ap, ◌∙◌, arith}
+use Rattle.devices.specs.declared.irqmp.Irqmp.{Irqmp}
+use Rattle.devices.specs.declared.gptimer.Gptimer.{Gptimer}
 use Rattle.devices.specs.Refusal.{not_refused, ill_formed, no_register}
 use Rattle.devices.proofs.Laws.Register.{ByOffset}
 use Rattle.devices.specs.Apbuart as uart
@@ -13,9 +15,8 @@ use Rattle.devices.proofs.Laws.Gptimer as unit'
 use Rattle.devices.proofs.Laws.Gptimer.{Least, skip_least}
 use Rattle.devices.specs.Irqmp as irq
 use Rattle.devices.proofs.Laws.Irqmp as controller'
-use Rattle.devices.specs.declared.gptimer.Answer as unit
+use Rattle.devices.specs.Answer as devices
 use Rattle.devices.specs.declared.gptimer.Elapsed.{Elapsed}
-use Rattle.devices.specs.declared.irqmp.Answer as controller
 use Rattle.bus.specs.Board.{gr712rc, holds, all_apart, all_there}
 use Rattle.bus.proofs.Laws.Board.{one_window}
 use Rattle.bus.specs.Machine as bus
@@ -27,7 +28,6 @@ use Rattle.bus.proofs.Laws.Call as laws
 use Rattle.bus.proofs.Laws.Call.{none_given}
 use Rattle.bus.specs.View.{machine_of, answer_of, Conforms}
 use Rattle.bus.specs.declared.board.Window.{Window}
-use Rattle.bus.specs.declared.board.Found.TheVariants.{In}
 use Rattle.bus.specs.declared.machine.Machine.{Machine}
 use Rattle.bus.specs.declared.machine.Answer.{Answer}
 use Rattle.bus.specs.declared.machine.Call.{Call}
@@ -113,7 +113,7 @@ pub unit_claim :
     ((gpt.read offset m.unit).refusal ≡ line13 (gpt.has_register offset)) ×
     ((gpt.write offset value m.unit).refusal ≡ line13 (gpt.has_register offset))
 unit_claim m offset value =
-    let number : unit.Answer → ℕ = λ a. a.refusal in (
+    let number : devices.Answer Gptimer → ℕ = λ a. a.refusal in (
       number_13 number _ _ _ refl (unit'.read_by_offset offset m.unit),
       number_13 number _ _ _ refl (unit'.write_by_offset offset value m.unit),
     )
@@ -127,7 +127,7 @@ pub controller_claim :
     ((irq.set_pending lines m.irqmp).refusal ≡ not_refused)
 controller_claim m offset value lines w =
     let sound = laws.well_irqmp m w in
-    let number : controller.Answer → ℕ = λ a. a.refusal in (
+    let number : devices.Answer Irqmp → ℕ = λ a. a.refusal in (
       number_13 number _ _ _ refl (controller'.read_by_offset m.irqmp sound offset),
       number_13 number _ _ _ refl (controller'.write_by_offset m.irqmp sound offset value),
       controller'.acknowledge_accepted m.irqmp sound,
@@ -158,5 +158,5 @@ board_claim m = refl
 -- So an address lies in one window at most: any window of a table without overlaps that holds it is the one that is reached.
 pub window_claim :
     (m : bus.Machine) (address i : ℕ) (z : Window) → all_apart m.board.windows ≡ true → i < length m.board.windows →
-    holds address (get_or m.board.windows i z) ≡ true → window_of address m ≡ In (get_or m.board.windows i z)
+    holds address (get_or m.board.windows i z) ≡ true → window_of address m ≡ Some (get_or m.board.windows i z)
 window_claim m = one_window m.board.windows

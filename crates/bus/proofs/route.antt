@@ -1,3 +1,1 @@
-pub mod Refusing
-pub mod Routing
 pub mod Leading

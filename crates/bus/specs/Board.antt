@@ -1,12 +1,10 @@
 -- The windows and interrupt lines of a board: paper 01, "Windows", and paper 02, No. 4. The code's structs say no more than
 -- the papers do, so the definitions are on those structs. A line is the word that has its bit.
-use Rattle.std.specs.Prelude.{ℕ, ◌+◌, ◌^◌, Bool, true, cond, ◌&&◌, ◌||◌, List, [], ◌∷◌, nat_lt, nat_le}
+use Rattle.std.specs.Prelude.{ℕ, ◌+◌, ◌^◌, Bool, true, cond, ◌&&◌, ◌||◌, List, [], ◌∷◌, nat_lt, nat_le, Option, Some, None}
 use Rattle.bus.specs.declared.board.Device.{Device}
 use Rattle.bus.specs.declared.board.Device.TheVariants.{Port, TimerUnit, Controller}
 use Rattle.bus.specs.declared.board.Window.{Window}
 use Rattle.bus.specs.declared.board.Board.{Board}
-use Rattle.bus.specs.declared.board.Found.{Found}
-use Rattle.bus.specs.declared.board.Found.TheVariants.{In, Nowhere}
 
 abbrev pub window : ℕ → ℕ → Device → Window
 window base length device = record { base = base; length = length; device = device }
@@ -44,9 +42,9 @@ abbrev pub holds : ℕ → Window → Bool
 holds address w = nat_le w.base address && nat_lt address (end w)
 
 -- the window of the table that the address lies in, if it lies in one
-abbrev pub window_at : ℕ → List Window → Found
-window_at address [] = Nowhere
-window_at address (w ∷ ws) = cond (holds address w) (In w) (window_at address ws)
+abbrev pub window_at : ℕ → List Window → Option Window
+window_at address [] = None
+window_at address (w ∷ ws) = cond (holds address w) (Some w) (window_at address ws)
 
 -- No two windows of a table overlap.
 abbrev pub apart : Window → Window → Bool

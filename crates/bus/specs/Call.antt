@@ -1,7 +1,7 @@
 -- Each call on a machine: paper 01, "Refusal numbers" with its order, and "The slow run"; paper 02, No. 4, adds the acknowledge, and
 -- No. 5 number 13. The code's enum of calls says no more than the papers do, so the definitions are on that enum: "An access has a
 -- 32-bit address and a size in bytes." "Script records are such calls, a malformed one a refused call".
-use Rattle.std.specs.Prelude.{ℕ, ◌+◌, ◌-◌, ◌%◌, Bool, false, true, cond, not, ◌||◌, List, [], ◌∷◌, length, ◌==◌, nat_lt, nat_le}
+use Rattle.std.specs.Prelude.{ℕ, ◌+◌, ◌-◌, ◌%◌, Bool, false, true, cond, not, ◌||◌, List, [], ◌∷◌, length, ◌==◌, nat_lt, nat_le, Option, Some, None}
 use Rattle.devices.specs.Word.{bit}
 use Rattle.devices.specs.Refusal.{not_refused, receiver_off, queue_full, ill_formed, no_register}
 use Rattle.devices.specs.Apbuart as uart
@@ -13,10 +13,9 @@ use Rattle.bus.specs.Machine.{Machine, Answer, well_formed, reset_state, port_at
 use Rattle.bus.specs.Machine.{refused, accepted, of_port, of_timer_unit, of_controller}
 use Rattle.bus.specs.Time as time
 use Rattle.bus.specs.Time.{stepped, of_span}
+use Rattle.bus.specs.declared.board.Window.{Window}
 use Rattle.bus.specs.declared.board.Device.{Device}
 use Rattle.bus.specs.declared.board.Device.TheVariants as device
-use Rattle.bus.specs.declared.board.Found.{Found}
-use Rattle.bus.specs.declared.board.Found.TheVariants.{In, Nowhere}
 use Rattle.bus.specs.declared.machine.Call.{Call}
 use Rattle.bus.specs.declared.machine.Call.TheVariants.{Read, Write, Offer, Advance, Skip, Reset, Acknowledge, Malformed}
 
@@ -39,14 +38,14 @@ abbrev pub is_size : ℕ → Bool
 is_size size = size == 1 || size == 2 || size == 4
 
 -- "the address lies in no window"; `found` is the window that it lies in, if there is one
-abbrev pub nowhere : Found → Bool
-nowhere (In w) = false
-nowhere Nowhere = true
+abbrev pub nowhere : Option Window → Bool
+nowhere (Some w) = false
+nowhere None = true
 
 -- "the access runs past its window's end"
-abbrev pub runs_past : ℕ → ℕ → Found → Bool
-runs_past address size (In w) = nat_lt (board.end w) (address + size)
-runs_past address size Nowhere = false
+abbrev pub runs_past : ℕ → ℕ → Option Window → Bool
+runs_past address size (Some w) = nat_lt (board.end w) (address + size)
+runs_past address size None = false
 
 -- 02, No. 5: "an offset without a register": each device lists those that have one.
 abbrev pub has_register : Device → ℕ → Bool
@@ -54,14 +53,14 @@ has_register (device.Port n) offset = uart.has_register offset
 has_register device.TimerUnit offset = gpt.has_register offset
 has_register device.Controller offset = irq.has_register offset
 
-abbrev pub lacks_register : ℕ → Found → Bool
-lacks_register address (In w) = not (has_register w.device (address - w.base))
-lacks_register address Nowhere = false
+abbrev pub lacks_register : ℕ → Option Window → Bool
+lacks_register address (Some w) = not (has_register w.device (address - w.base))
+lacks_register address None = false
 
 -- What of a call the table's conditions are about. On any other call than an access, a byte and a malformed record only 9
 -- can be given.
 pub data Subject : Type 0 where
-  access : (address size : ℕ) (found : Found) → Subject
+  access : (address size : ℕ) (found : Option Window) → Subject
   byte_for : (n : ℕ) → Subject
   unreadable : Subject
   other : Subject
@@ -92,7 +91,7 @@ table s m = ill_formed when not (well_formed m) ∷ rules s m
 unfoldable pub refusal : Subject → Machine → ℕ
 refusal s m = first (table s m)
 
-abbrev pub window_of : ℕ → Machine → Found
+abbrev pub window_of : ℕ → Machine → Option Window
 window_of address m = board.window_at address m.board.windows
 
 abbrev pub subject : Call → Machine → Subject
@@ -118,9 +117,9 @@ write_device value m device.Controller offset = of_controller (irq.write offset 
 
 -- An access reaches the device whose window its address lies in, at the offset from the window's base. One that lies in no
 -- window is refused, so what stands for it here is never asked for.
-abbrev pub reach : (Device → ℕ → Answer) → Machine → ℕ → Found → Answer
-reach reply m address (In w) = reply w.device (address - w.base)
-reach reply m address Nowhere = accepted 0 m
+abbrev pub reach : (Device → ℕ → Answer) → Machine → ℕ → Option Window → Answer
+reach reply m address (Some w) = reply w.device (address - w.base)
+reach reply m address None = accepted 0 m
 
 -- "An access, an offered byte and a reset do what the sections above say. An advance does one cycle as often as its span
 -- says. A skip does one cycle after another while none had a pulse of any timer and the limit isn't reached." An access and a

@@ -7,9 +7,8 @@ use Rattle.devices.specs.Apbuart.{Port}
 use Rattle.devices.specs.Gptimer as gpt
 use Rattle.devices.specs.Irqmp as irq
 use Rattle.devices.specs.declared.gptimer.Gptimer.{Gptimer}
-use Rattle.devices.specs.declared.gptimer.Answer as unit
+use Rattle.devices.specs.Answer as devices
 use Rattle.devices.specs.declared.irqmp.Irqmp.{Irqmp}
-use Rattle.devices.specs.declared.irqmp.Answer as controller
 use Rattle.bus.specs.declared.board.Board.{Board}
 
 -- "Two machines are equal when their registers, queued bytes oldest first, and line levels are equal." Its board is part of a
@@ -110,9 +109,9 @@ abbrev pub of_port : ℕ → uart.Answer → Machine → Answer
 of_port n a m = answered not_refused a.emitted a.byte a.value 0 no_pulses (with_port n a.port m)
 
 -- an access that its timer unit answered:
-abbrev pub of_timer_unit : unit.Answer → Machine → Answer
-of_timer_unit a m = accepted a.value (with_unit a.unit m)
+abbrev pub of_timer_unit : devices.Answer Gptimer → Machine → Answer
+of_timer_unit a m = accepted a.value (with_unit a.device m)
 
 -- and an access or an acknowledge that its controller answered:
-abbrev pub of_controller : controller.Answer → Machine → Answer
-of_controller a m = accepted a.value (with_irqmp a.controller m)
+abbrev pub of_controller : devices.Answer Irqmp → Machine → Answer
+of_controller a m = accepted a.value (with_irqmp a.device m)

@@ -1,38 +1,25 @@
 -- What functions of the crate that are not public promise; no public contract cites this.
-use Rattle.std.specs.Prelude.{ℕ, ◌-◌, ◌%◌, true, cond, not, ◌||◌, List, [], ◌∷◌, ◌==◌, nat_le}
-use Rattle.devices.specs.Refusal.{not_refused}
+use Rattle.std.specs.Prelude.{ℕ, ◌-◌, ◌%◌, cond, not, ◌||◌, ◌==◌, nat_le, Option, Some, None, Result, Ok, Err}
 use Rattle.devices.specs.declared.apbuart.Call.TheVariants as port
-use Rattle.bus.specs.Refusal.{bad_size, no_window, past_window, misaligned, not_a_word, no_port}
-use Rattle.bus.specs.Call.{Rule, ◌when◌, first, is_size, runs_past}
+use Rattle.bus.specs.Call.{is_size, runs_past}
+use Rattle.bus.specs.declared.refusal.Refusal.{Refusal}
+use Rattle.bus.specs.declared.refusal.Refusal.TheVariants.{BadSize, NoWindow, PastWindow, Misaligned, NotAWord, NoPort}
 use Rattle.bus.specs.declared.board.Device.{Device}
 use Rattle.bus.specs.declared.board.Device.TheVariants as device
 use Rattle.bus.specs.declared.board.Window.{Window}
 use Rattle.bus.specs.declared.board.Board.{Board}
-use Rattle.bus.specs.declared.board.Found.{Found}
-use Rattle.bus.specs.declared.board.Found.TheVariants.{In, Nowhere}
 use Rattle.bus.specs.declared.route.Route.{Route}
 use Rattle.bus.specs.declared.route.Route.TheVariants.{Refused, Port, Read, Write}
 use Rattle.bus.specs.declared.route.Core.TheVariants as core
 
--- the table's lines for 3 to 5, of an access in a window
-abbrev pub window_rules : (address size : ℕ) → Window → List Rule
-window_rules address size w =
-    past_window when runs_past address size (In w) ∷
-    misaligned when not (address % size == 0) ∷
-    not_a_word when (size == 1 || size == 2) ∷
-    []
+-- 3 and 4 of the table, in that order, of an access in a window, and then 5
+abbrev pub placed : (address size : ℕ) → Window → Result (Unit {0}) Refusal → Result (Unit {0}) Refusal
+placed address size w otherwise =
+    cond (runs_past address size (Some w)) (Err PastWindow)
+    (cond (not (address % size == 0)) (Err Misaligned) otherwise)
 
-abbrev pub window_number : (address size : ℕ) → Window → ℕ
-window_number address size w = first (window_rules address size w)
-
--- those for 3 and 4, or a number
-abbrev pub place_number : (address size number : ℕ) → Window → ℕ
-place_number address size number w =
-    first
-    (past_window when runs_past address size (In w) ∷
-    misaligned when not (address % size == 0) ∷
-    number when true ∷
-    [])
+abbrev pub judged : (address size : ℕ) → Window → Result (Unit {0}) Refusal
+judged address size w = placed address size w (cond (size == 1 || size == 2) (Err NotAWord) (Ok tt))
 
 -- the route of an access of a device
 abbrev pub read_route : Device → ℕ → Route
@@ -46,14 +33,16 @@ write_route value device.TimerUnit offset = Write offset value core.TimerUnit
 write_route value device.Controller offset = Write offset value core.Controller
 
 -- that of an access: 1, then 2, then 3 to 5, then the device of the window
-abbrev pub window_route : (Device → ℕ → Route) → (address size : ℕ) → Found → Route
-window_route own address size Nowhere = Refused no_window
-window_route own address size (In w) =
-    cond (window_number address size w == not_refused) (own w.device (address - w.base))
-    (Refused (window_number address size w))
+abbrev pub unless_refused : Result (Unit {0}) Refusal → Route → Route
+unless_refused (Ok nothing) route = route
+unless_refused (Err refusal) route = Refused refusal
 
-abbrev pub access_route : (Device → ℕ → Route) → (address size : ℕ) → Found → Route
-access_route own address size found = cond (is_size size) (window_route own address size found) (Refused bad_size)
+abbrev pub window_route : (Device → ℕ → Route) → (address size : ℕ) → Option Window → Route
+window_route own address size None = Refused NoWindow
+window_route own address size (Some w) = unless_refused (judged address size w) (own w.device (address - w.base))
+
+abbrev pub access_route : (Device → ℕ → Route) → (address size : ℕ) → Option Window → Route
+access_route own address size found = cond (is_size size) (window_route own address size found) (Refused BadSize)
 
 abbrev pub offer_route : Board → ℕ → ℕ → Route
-offer_route b n byte = cond (nat_le b.ports n) (Refused no_port) (Port n (port.Offer byte))
+offer_route b n byte = cond (nat_le b.ports n) (Refused NoPort) (Port n (port.Offer byte))

@@ -1,5 +1,7 @@
 -- The refusal numbers that a call on a machine adds to those of a device's own call: paper 01, "Refusal numbers".
 use Rattle.std.specs.Prelude.{ℕ}
+use Rattle.bus.specs.declared.refusal.Refusal.{Refusal}
+use Rattle.bus.specs.declared.refusal.Refusal.TheVariants.{BadSize, NoWindow, PastWindow, Misaligned, NotAWord, NoPort, BadRecord}
 
 -- "1 | size is not 1, 2 or 4"
 abbrev pub bad_size : ℕ
@@ -28,3 +30,13 @@ no_port = 6
 -- "10 | a script record is malformed or cut short"
 abbrev pub bad_record : ℕ
 bad_record = 10
+
+-- The number of each of the code's reasons for a refusal.
+abbrev pub number_of : Refusal → ℕ
+number_of BadSize = bad_size
+number_of NoWindow = no_window
+number_of PastWindow = past_window
+number_of Misaligned = misaligned
+number_of NotAWord = not_a_word
+number_of NoPort = no_port
+number_of BadRecord = bad_record

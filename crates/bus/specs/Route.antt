@@ -1,15 +1,17 @@
 -- A route is the one device's call, or the refusal, that a machine's call becomes on a board: the code's enum. What a call
 -- answers is defined without routes (Call.antt); `Leads` says which routes a call may take.
-use Rattle.std.specs.Prelude.{ℕ, ◌≡◌, Bool, false, true, List, nat_lt}
+use Rattle.std.specs.Prelude.{ℕ, ◌≡◌, Bool, false, true, List, is_some, unwrap_or, nat_lt}
+use Rattle.devices.specs.declared.irqmp.Irqmp.{Irqmp}
+use Rattle.devices.specs.declared.gptimer.Gptimer.{Gptimer}
 use Rattle.devices.specs.Refusal.{not_refused}
 use Rattle.devices.specs.Apbuart as uart
 use Rattle.devices.specs.Apbuart.Call.{answer_to}
 use Rattle.devices.specs.Gptimer as gpt
 use Rattle.devices.specs.Irqmp as irq
-use Rattle.devices.specs.declared.gptimer.Answer as unit
+use Rattle.devices.specs.Answer as devices
 use Rattle.devices.specs.declared.gptimer.Span as gptimer
-use Rattle.devices.specs.declared.irqmp.Answer as irqmp
 use Rattle.devices.specs.declared.gptimer.Span.TheVariants.{Cycles, ToPulse}
+use Rattle.bus.specs.Refusal.{number_of}
 use Rattle.bus.specs.Board.{all_there}
 use Rattle.bus.specs.Machine.{Machine, Answer, well_formed, reset_state, port_at, with_port, with_unit, with_irqmp}
 use Rattle.bus.specs.Machine.{answered, no_pulses, refused, accepted}
@@ -26,7 +28,7 @@ use Rattle.bus.specs.declared.route.Core.TheVariants.{TimerUnit, Controller}
 
 -- The answer of a call that leaves the machine `after`: of the code's reply,
 abbrev pub replied : Reply → Machine → Answer
-replied r after = answered r.refusal r.emitted r.byte r.value r.cycles r.pulses after
+replied r after = answered r.refusal (is_some r.emitted) (unwrap_or r.emitted 0) r.value r.cycles r.pulses after
 
 -- of what a port answered, with the port's own refusal number,
 abbrev pub port_answer : uart.Answer → Machine → Answer
@@ -45,11 +47,11 @@ abbrev pub port_called : ℕ → uart.Answer → Machine → Answer
 port_called n a m = port_answer a (step no_pulses m (with_port n a.port m))
 
 -- The timer unit, or the controller, answers its own call and is stored; no port changes, so that no level rises.
-abbrev pub unit_called : unit.Answer → Machine → Answer
-unit_called a m = value_answer a.refusal a.value (with_unit a.unit m)
+abbrev pub unit_called : devices.Answer Gptimer → Machine → Answer
+unit_called a m = value_answer a.refusal a.value (with_unit a.device m)
 
-abbrev pub controller_called : irqmp.Answer → Machine → Answer
-controller_called a m = value_answer a.refusal a.value (with_irqmp a.controller m)
+abbrev pub controller_called : devices.Answer Irqmp → Machine → Answer
+controller_called a m = value_answer a.refusal a.value (with_irqmp a.device m)
 
 -- The timer unit or the controller answers an access.
 abbrev pub core_read : Core → ℕ → Machine → Answer
@@ -67,7 +69,7 @@ passes (ToPulse limit) m = time.skip limit m
 
 -- What a route answers on a machine.
 unfoldable pub carried_out : Route → Machine → Answer
-carried_out (Refused number) m = refused number m
+carried_out (Refused refusal) m = refused (number_of refusal) m
 carried_out (Port n c) m = port_called n (answer_to c (port_at n m)) m
 carried_out (Read offset core) m = core_read core offset m
 carried_out (Write offset value core) m = core_written core offset value m
@@ -77,7 +79,7 @@ carried_out Reset m = accepted 0 (reset_state m.board)
 
 -- A port that a route names is one of the first so many.
 abbrev pub port_exists : ℕ → Route → Bool
-port_exists ports (Refused number) = true
+port_exists ports (Refused refusal) = true
 port_exists ports (Port n c) = nat_lt n ports
 port_exists ports (Read offset core) = true
 port_exists ports (Write offset value core) = true

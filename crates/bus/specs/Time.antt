@@ -37,7 +37,7 @@ lines_set pulses before after =
 
 -- The machine after a step: what pulsed or rose in it becomes pending.
 abbrev pub step : (pulses : List ℕ) (before after : Machine) → Machine
-step pulses before after = with_irqmp (irq.set_pending (lines_set pulses before after) after.irqmp).controller after
+step pulses before after = with_irqmp (irq.set_pending (lines_set pulses before after) after.irqmp).device after
 
 -- An access and a byte are steps without a pulse.
 abbrev pub stepped : Machine → Answer → Answer

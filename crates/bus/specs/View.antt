@@ -2,15 +2,18 @@
 -- (Apbuart/View.antt of the devices), a queue's `head` and its places that hold no waiting byte, none decides in a machine:
 -- after an accepted call, and in what `Machine::reset_state` makes. What holds anyway: the view is decided, and on machines of
 -- one view every call has the same answer.
-use Rattle.std.specs.Prelude.{◌≡◌, map}
+use Rattle.std.specs.Prelude.{◌≡◌, map, is_some, unwrap_or}
 use Rattle.devices.specs.Refusal.{not_refused}
 use Rattle.devices.specs.Apbuart.View.{port_of}
 use Rattle.bus.specs.Board.{gr712rc}
 use Rattle.bus.specs.Machine as bus
 use Rattle.bus.specs.Call as call
+use Rattle.bus.specs.Route.{replied, carried_out}
 use Rattle.bus.specs.declared.machine.Machine.{Machine}
 use Rattle.bus.specs.declared.machine.Answer.{Answer}
 use Rattle.bus.specs.declared.machine.Call.{Call}
+use Rattle.bus.specs.declared.reply.Reply.{Reply}
+use Rattle.bus.specs.declared.route.Route.{Route}
 
 -- "The build is a model of one GR712RC board"
 abbrev pub machine_of : Machine → bus.Machine
@@ -20,8 +23,8 @@ abbrev pub answer_of : Answer → bus.Answer
 answer_of a =
     record {
       refusal = a.refusal;
-      emitted = a.emitted;
-      byte = a.byte;
+      emitted = is_some a.emitted;
+      byte = unwrap_or a.emitted 0;
       levels = a.levels;
       value = a.value;
       cycles = a.cycles;
@@ -34,3 +37,9 @@ answer_of a =
 pub record Conforms (m : Machine) (c : Call) (a : Answer) : Type 0 where
   pub answer : answer_of a ≡ call.answer c (machine_of m)
   pub same : (a.refusal ≡ not_refused → ⊥) → a.machine ≡ m
+
+-- The reply `r` and the machine `after` are what the route answers on the machine `before`, and a route that is refused leaves the
+-- machine as it was, in every field.
+pub record CarriesOut (route : Route) (before : Machine) (r : Reply) (after : Machine) : Type 0 where
+  pub answer : replied r (machine_of after) ≡ carried_out route (machine_of before)
+  pub same : (r.refusal ≡ not_refused → ⊥) → after ≡ before

@@ -6,35 +6,28 @@ ghost use Rattle.bus.specs.Board as board;
 ghost use Rattle.bus.specs.Time as time;
 
 // What answers in a window.
-#[derive(Clone, Copy)]
+#[derive(Clone, Copy, Debug, PartialEq, Eq)]
 pub enum Device {
     Port(u8),
     TimerUnit,
     Controller,
 }
 
-#[derive(Clone, Copy)]
+#[derive(Clone, Copy, Debug, PartialEq, Eq)]
 pub struct Window {
     pub base: u32,
     pub length: u32,
     pub device: Device,
 }
 
-// Where an address lies.
-#[derive(Clone, Copy)]
-pub(crate) enum Found {
-    In(Window),
-    Nowhere,
-}
-
 // The interrupt line of each port, port 0 first, and of each timer, timer 1 first: the word with that line's bit.
-#[derive(Clone, Copy)]
+#[derive(Clone, Copy, Debug, PartialEq, Eq)]
 pub struct Lines {
     pub ports: [u32; Lines::PORTS],
     pub timers: [u32; Lines::TIMERS],
 }
 
-#[derive(Clone, Copy)]
+#[derive(Clone, Copy, Debug, PartialEq, Eq)]
 pub struct Board {
     // How many ports: they are 0 to one below this.
     pub ports: u8,
@@ -127,17 +120,16 @@ impl Board {
         ],
     };
 
-    // From the last window to the first, without a way out of the loop: the compiler then needs no jump for it.
-    pub(crate) fn window_at(self, address: u32) -> Found
+    // The window that an address lies in. From the last window to the first, without a way out of the loop: the compiler then needs no
+    // jump for it.
+    pub(crate) fn window_at(self, address: u32) -> Option<Window>
         ensures { result ≡ board.window_at address self.windows }
     {
-        let mut found = Found::Nowhere;
-        let mut i = Self::WINDOWS;
-        while 0 < i {
-            i -= 1;
+        let mut found = None;
+        for i in (0..Self::WINDOWS).rev() {
             let window = self.windows[i];
             if window.holds(address) {
-                found = Found::In(window);
+                found = Some(window);
             }
         }
         found
@@ -154,9 +146,7 @@ impl Lines {
         ensures { result ≡ time.lines_of self.timers (time.pulsed pulses) }
     {
         let mut lines = 0;
-        let mut i = Self::TIMERS;
-        while 0 < i {
-            i -= 1;
+        for i in (0..Self::TIMERS).rev() {
             lines = line_if(0 < pulses[i], self.timers[i]) | lines;
         }
         lines

@@ -9,6 +9,6 @@ pub fn call(machine: &mut Machine, call: Call) -> Answer
     ensures { Conforms machine.old call result × (machine.new ≡ result.machine) }
 {
     let answer = (*machine).call(call);
-    *machine = answer.after();
+    *machine = answer.machine;
     answer
 }

@@ -1,20 +1,25 @@
 // The machine, six serial ports, a timer unit and an interrupt controller, as a state by value, and the calls on it. Each public
 // call answers what `specs/Machine.antt` and `specs/Call.antt` define, whatever the machine and the arguments.
-ghost use Rattle.std.specs.Prelude.{◌≡◌, cond, get_or};
+ghost use Rattle.std.specs.Prelude.{◌≡◌, ◌<◌, true, cond, get_or};
 ghost use Rattle.devices.specs.Irqmp as irq;
 ghost use Rattle.bus.specs.Machine as bus;
 ghost use Rattle.bus.specs.Board.{gr712rc};
 ghost use Rattle.bus.specs.Time as time;
-ghost use Rattle.bus.specs.View.{machine_of, Conforms};
+ghost use Rattle.bus.specs.Route.{port_exists, Leads};
+ghost use Rattle.bus.specs.View.{machine_of, Conforms, CarriesOut};
 ghost use Rattle.bus.specs.declared.machine.Call.TheVariants as calls;
+ghost use Rattle.bus.specs.declared.route.Route.{Route};
+ghost use Rattle.bus.specs.declared.route.Route.TheVariants as to;
 
 use crate::board::{Board, Lines};
-use crate::refusal;
+use crate::refusal::NOT_REFUSED;
 use crate::reply::Reply;
 use crate::route::{Core, Route};
+use devices::apbuart;
 use devices::apbuart::Apbuart;
-use devices::gptimer::{BeforeTick, Gptimer};
+use devices::gptimer::{Gptimer, Span};
 use devices::irqmp::Irqmp;
+use devices::refusal::Refusal;
 
 #[derive(Clone, Copy)]
 pub struct Machine {
@@ -24,7 +29,7 @@ pub struct Machine {
 }
 
 // A call on a machine.
-#[derive(Clone, Copy)]
+#[derive(Clone, Copy, Debug, PartialEq, Eq)]
 pub enum Call {
     Read { address: u32, size: u8 },
     Write { address: u32, size: u8, value: u32 },
@@ -41,11 +46,10 @@ pub enum Call {
 // What a call answers. What its kind does not produce is 0.
 #[derive(Clone, Copy)]
 pub struct Answer {
-    // The refusal number; refusal::NOT_REFUSED where the call was not refused.
+    // The refusal number, as in `Reply`; refusal::NOT_REFUSED where the call was not refused.
     pub refusal: u8,
-    // Whether the call emitted a byte, and that byte.
-    pub emitted: bool,
-    pub byte: u8,
+    // The byte that the call emitted.
+    pub emitted: Option<u8>,
     // The line levels after the call, bit p for port p.
     pub levels: u8,
     // The value read, or the line taken.
@@ -55,15 +59,6 @@ pub struct Answer {
     pub pulses: [u64; 4],
     // The machine after the call.
     pub machine: Machine,
-}
-
-impl Answer {
-    // The machine after the call, as a call of its own: the proof of `in_place::call` then takes no struct apart.
-    pub(crate) fn after(self) -> Machine
-        ensures { result ≡ self.machine }
-    {
-        self.machine
-    }
 }
 
 impl Machine {
@@ -87,12 +82,8 @@ impl Machine {
     pub fn well_formed(self) -> bool
         ensures { result ≡ bus.well_formed (machine_of self) }
     {
-        let mut i = 0;
-        while i < Self::PORTS {
-            let port = self.ports[i];
-            if port.well_formed() {
-                i += 1;
-            } else {
+        for port in &self.ports {
+            if !port.well_formed() {
                 return false;
             }
         }
@@ -104,9 +95,7 @@ impl Machine {
         ensures { result ≡ bus.levels (machine_of self) }
     {
         let mut levels = 0;
-        let mut i = Self::PORTS;
-        while 0 < i {
-            i -= 1;
+        for i in (0..Self::PORTS).rev() {
             levels = levels * 2 + self.ports[i].level as u8;
         }
         levels
@@ -167,118 +156,169 @@ impl Machine {
 
     // The controller after a step of port n, whose level was `before` and is `after`: where it rose, the port's line is pending. The
     // table is looked at only there.
+    #[tactic(auto, using(crate::proofs::machine::Setting::setting))]
     pub fn after_port(n: usize, before: bool, after: bool, controller: Irqmp) -> Irqmp
-        ensures { result ≡ (irq.set_pending (cond (time.rises before after) (get_or gr712rc.lines.ports n 0) 0) controller).controller }
+        ensures { result ≡ (irq.set_pending (cond (time.rises before after) (get_or gr712rc.lines.ports n 0) 0) controller).device }
     {
         if before {
             return controller;
         }
-        if after {
-            if n < Lines::PORTS {
-                let lines = Self::BOARD.lines;
-                return controller.set_pending(lines.ports[n]).controller;
-            }
+        if after && n < Lines::PORTS {
+            return controller.set_pending(Self::BOARD.lines.ports[n]).device;
         }
         controller
     }
 
     // The controller after a span in which the timers had these pulses: the lines of those that had one are pending.
     pub fn after_pulses(pulses: [u64; 4], controller: Irqmp) -> Irqmp
-        ensures { result ≡ (irq.set_pending (time.lines_of gr712rc.lines.timers (time.pulsed pulses)) controller).controller }
+        ensures { result ≡ (irq.set_pending (time.lines_of gr712rc.lines.timers (time.pulsed pulses)) controller).device }
     {
         let lines = Self::BOARD.lines.of_pulses(pulses);
         if lines == 0 {
             return controller;
         }
-        controller.set_pending(lines).controller
+        controller.set_pending(lines).device
     }
 
-    // Any of these calls. What changes is stored: devices, the prescaler's value alone, or at a reset the machine. The answer is
-    // made in one place, so the machine is copied in and out and not in between. The loop of a run (crate `script`) has the same
-    // arms, on a machine of its own.
+    // Any of these calls. The answer is made in one place, so the machine is copied in and out and not in between.
     pub fn call(mut self, call: Call) -> Answer
         ensures { Conforms self call result }
     {
-        let mut reply = Reply::refused(refusal::ILL_FORMED);
+        let mut reply = Reply::refused(Refusal::IllFormed.number());
         if self.well_formed() {
-            match Route::of(Self::BOARD, call) {
-                Route::Refused(number) => {
-                    reply = Reply::refused(number);
-                }
-                Route::Port { n, call } => {
-                    let before = self.ports[n];
-                    let answer = before.call(call);
-                    let port = answer.port;
-                    self.ports[n] = port;
-                    let irqmp = Self::after_port(n, before.level, port.level, self.irqmp);
-                    self.irqmp = irqmp;
-                    reply = Reply::of_port(answer);
-                }
-                Route::Read { offset, core } => match core {
-                    Core::TimerUnit => {
-                        let answer = self.unit.read(offset);
-                        reply = Reply::valued(answer.refusal, answer.value);
-                    }
-                    Core::Controller => {
-                        let answer = self.irqmp.read(offset);
-                        reply = Reply::valued(answer.refusal, answer.value);
-                    }
-                },
-                Route::Write {
-                    offset,
-                    value,
-                    core,
-                } => match core {
-                    Core::TimerUnit => {
-                        let answer = self.unit.write(offset, value);
-                        let unit = answer.unit;
-                        self.unit = unit;
-                        reply = Reply::valued(answer.refusal, answer.value);
-                    }
-                    Core::Controller => {
-                        let answer = self.irqmp.write(offset, value);
-                        let irqmp = answer.controller;
-                        self.irqmp = irqmp;
-                        reply = Reply::valued(answer.refusal, answer.value);
-                    }
-                },
-                Route::Acknowledge => {
-                    let answer = self.irqmp.acknowledge();
-                    let irqmp = answer.controller;
-                    self.irqmp = irqmp;
-                    reply = Reply::valued(answer.refusal, answer.value);
-                }
-                Route::Pass(span) => match self.unit.before_tick(span) {
-                    BeforeTick::Yes { cycles, scaler } => {
-                        self.unit.scaler = scaler;
-                        reply = Reply::of_span(cycles, [0; 4]);
-                    }
-                    BeforeTick::No => {
-                        let elapsed = self.unit.pass(span);
-                        let unit = elapsed.unit;
-                        self.unit = unit;
-                        let pulses = elapsed.pulses;
-                        let irqmp = Self::after_pulses(pulses, self.irqmp);
-                        self.irqmp = irqmp;
-                        reply = Reply::of_span(elapsed.cycles, pulses);
-                    }
-                },
-                Route::Reset => {
-                    self = Self::reset_state();
-                    reply = Reply::valued(refusal::NOT_REFUSED, 0);
-                }
-            }
+            let mut keep = |said: Reply, _: Machine| reply = said;
+            self.carry_out(call, &mut keep);
         }
-        let pulses = reply.pulses;
         Answer {
             refusal: reply.refusal,
             emitted: reply.emitted,
-            byte: reply.byte,
             levels: self.levels(),
             value: reply.value,
             cycles: reply.cycles,
-            pulses,
+            pulses: reply.pulses,
             machine: self,
         }
+    }
+
+    // Makes a call on a well-formed machine where it lies, and tells the reply and the machine after it: for `call`, and for the loop
+    // of a run (crate `script`). What changes is stored: devices, the prescaler's value alone, or at a reset the machine.
+    #[inline(always)]
+    pub fn carry_out<F: FnMut(Reply, Machine)>(&mut self, call: Call, tell: &mut F)
+        requires { (reply : _) (after : _) → F.pre tell.old reply after }
+        ensures { (route : Route) × Leads gr712rc call route ×
+            (reply : _) × CarriesOut route self.old reply self.new × F.step tell.old reply self.new tt tell.new }
+    {
+        self.follow(Route::of(Self::BOARD, call), tell)
+    }
+
+    // Does what a route says. Each arm tells its own reply: as a result, logged behind the match, it took a run 30 instructions a
+    // record. The hints put the arms into the loop.
+    #[inline(always)]
+    fn follow<F: FnMut(Reply, Machine)>(&mut self, route: Route, tell: &mut F)
+        requires port_is_there { port_exists gr712rc.ports route ≡ true }
+        requires may_tell { (reply : _) (after : _) → F.pre tell.old reply after }
+        ensures { (reply : _) × CarriesOut route self.old reply self.new × F.step tell.old reply self.new tt tell.new }
+    {
+        match route {
+            Route::Refused(refusal) => tell(Reply::refused(refusal.number()), *self),
+            Route::Port { n, call } => {
+                let reply = self.call_port(n, call);
+                tell(reply, *self);
+            }
+            Route::Read { offset, core } => {
+                let reply = self.read_core(offset, core);
+                tell(reply, *self);
+            }
+            Route::Write {
+                offset,
+                value,
+                core,
+            } => {
+                let reply = self.write_core(offset, value, core);
+                tell(reply, *self);
+            }
+            Route::Acknowledge => {
+                let reply = self.take_line();
+                tell(reply, *self);
+            }
+            Route::Pass(span) => match self.unit.before_tick(span) {
+                Some(short) => {
+                    self.unit.scaler = short.scaler;
+                    tell(Reply::of_span(short.cycles, [0; 4]), *self);
+                }
+                None => {
+                    let reply = self.pass(span);
+                    tell(reply, *self);
+                }
+            },
+            Route::Reset => {
+                *self = Self::reset_state();
+                tell(Reply::valued(NOT_REFUSED, 0), *self);
+            }
+        }
+    }
+
+    // Port n answers its own call, and where its level rose its line is pending.
+    #[inline(always)]
+    fn call_port(&mut self, n: usize, call: apbuart::Call) -> Reply
+        requires { n < 6 }
+        ensures { CarriesOut (to.Port n call) self.old result self.new }
+    {
+        let before = self.ports[n];
+        let answer = before.call(call);
+        self.ports[n] = answer.device;
+        self.irqmp = Self::after_port(n, before.level, answer.device.level, self.irqmp);
+        Reply::of_port(answer)
+    }
+
+    // The timer unit or the controller answers a read.
+    #[inline(always)]
+    fn read_core(&self, offset: u32, core: Core) -> Reply
+        ensures { CarriesOut (to.Read offset core) self.now result self.now }
+    {
+        match core {
+            Core::TimerUnit => Reply::of_access(&self.unit.read(offset)),
+            Core::Controller => Reply::of_access(&self.irqmp.read(offset)),
+        }
+    }
+
+    // The timer unit or the controller answers a write, and is stored.
+    #[inline(always)]
+    fn write_core(&mut self, offset: u32, value: u32, core: Core) -> Reply
+        ensures { CarriesOut (to.Write offset value core) self.old result self.new }
+    {
+        match core {
+            Core::TimerUnit => {
+                let answer = self.unit.write(offset, value);
+                self.unit = answer.device;
+                Reply::of_access(&answer)
+            }
+            Core::Controller => {
+                let answer = self.irqmp.write(offset, value);
+                self.irqmp = answer.device;
+                Reply::of_access(&answer)
+            }
+        }
+    }
+
+    // The controller answers the line that the processor takes.
+    #[inline(always)]
+    fn take_line(&mut self) -> Reply
+        ensures { CarriesOut to.Acknowledge self.old result self.new }
+    {
+        let answer = self.irqmp.acknowledge();
+        self.irqmp = answer.device;
+        Reply::of_access(&answer)
+    }
+
+    // A span that goes past the next tick: the lines of the timers that pulsed in it are pending.
+    #[inline(always)]
+    fn pass(&mut self, span: Span) -> Reply
+        ensures { CarriesOut (to.Pass span) self.old result self.new }
+    {
+        let elapsed = self.unit.pass(span);
+        self.unit = elapsed.unit;
+        self.irqmp = Self::after_pulses(elapsed.pulses, self.irqmp);
+        Reply::of_span(elapsed.cycles, elapsed.pulses)
     }
 }

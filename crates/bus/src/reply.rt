@@ -2,18 +2,20 @@
 // those two. What its kind does not produce is 0. Each function promises what the answer is with any machine after the call
 // (`replied`).
 ghost use Rattle.std.specs.Prelude.{◌≡◌};
+ghost use Rattle.devices.specs.Answer.View.{number_in, value_in};
 ghost use Rattle.devices.specs.Apbuart.View as uart;
 ghost use Rattle.bus.specs.Machine as bus;
 ghost use Rattle.bus.specs.Route as routes;
 
-use crate::refusal;
+use crate::refusal::NOT_REFUSED;
+use devices::answer::Answer;
 use devices::apbuart;
 
-#[derive(Clone, Copy)]
+#[derive(Clone, Copy, Debug, PartialEq, Eq)]
 pub struct Reply {
+    // A number, as in the log, and no Result: `refused` and `valued` promise an answer for every number.
     pub refusal: u8,
-    pub emitted: bool,
-    pub byte: u8,
+    pub emitted: Option<u8>,
     pub value: u32,
     pub cycles: u64,
     pub pulses: [u64; 4],
@@ -26,29 +28,35 @@ impl Reply {
         Self::valued(refusal, 0)
     }
 
-    // The timer unit's or the controller's own answer, with its number and the value read or the line taken; or a reset.
+    // A number, and a value read or a line taken; or a reset.
     pub fn valued(refusal: u8, value: u32) -> Self
         ensures { routes.replied result ≡ routes.value_answer refusal value }
     {
         Reply {
             refusal,
-            emitted: false,
-            byte: 0,
+            emitted: None,
             value,
             cycles: 0,
             pulses: [0; 4],
         }
     }
 
+    // The timer unit's or the controller's own answer, with its number.
+    pub fn of_access<D>(answer: &Answer<D>) -> Self
+        ensures { routes.replied result ≡ routes.value_answer (number_in answer.now.outcome) (value_in answer.now.outcome) }
+    {
+        Self::valued(answer.number(), answer.value())
+    }
+
     // A port's own answer, with its number.
     pub fn of_port(answer: apbuart::Answer) -> Self
         ensures { routes.replied result ≡ routes.port_answer (uart.answer_of answer) }
     {
+        let done = answer.done();
         Reply {
-            refusal: answer.refusal,
-            emitted: answer.emitted,
-            byte: answer.byte,
-            value: answer.value,
+            refusal: answer.number(),
+            emitted: done.emitted,
+            value: done.value,
             cycles: 0,
             pulses: [0; 4],
         }
@@ -59,9 +67,8 @@ impl Reply {
         ensures { routes.replied result ≡ routes.span_answer cycles pulses }
     {
         Reply {
-            refusal: refusal::NOT_REFUSED,
-            emitted: false,
-            byte: 0,
+            refusal: NOT_REFUSED,
+            emitted: None,
             value: 0,
             cycles,
             pulses,

@@ -1,19 +1,19 @@
 // Where a call leads on a board. The board and the call decide it, no state: the call is refused with one of 1 to 6 or 10, or it is
 // one device's own call, a span of time or a reset. 9 is judged apart, 7 and 8 by the port, 13 by the device that is accessed.
-ghost use Rattle.std.specs.Prelude.{◌≡◌, true, ◌<◌};
+ghost use Rattle.std.specs.Prelude.{◌≡◌, true, ◌<◌, Ok};
 ghost use Rattle.bus.specs.Board.{window_at};
 ghost use Rattle.bus.specs.Call.{is_size};
 ghost use Rattle.bus.specs.Route.{Leads};
 ghost use Rattle.bus.specs.Private as private;
 
-use crate::board::{Board, Device, Found, Window};
+use crate::board::{Board, Device, Window};
 use crate::machine::Call;
-use crate::refusal;
+use crate::refusal::Refusal;
 use devices::apbuart;
 use devices::gptimer::Span;
 
 // A device of which a board has one.
-#[derive(Clone, Copy)]
+#[derive(Clone, Copy, Debug, PartialEq, Eq)]
 pub enum Core {
     TimerUnit,
     Controller,
@@ -32,8 +32,8 @@ pub enum Route {
     Acknowledge,
     // Time passes.
     Pass(Span),
-    // The call is refused with this number.
-    Refused(u8),
+    // The call is refused.
+    Refused(Refusal),
     // Every device is reset.
     Reset,
 }
@@ -43,61 +43,51 @@ impl Route {
         ensures { Leads board call result }
     {
         match call {
-            Call::Read { address, size } => Self::read(board, address, size),
+            Call::Read { address, size } => Self::access(board, address, size, Self::read_device),
             Call::Write {
                 address,
                 size,
                 value,
-            } => Self::write(board, address, size, value),
+            } => Self::access(
+                board,
+                address,
+                size,
+                |device, offset| Self::write_device(device, offset, value),
+            ),
             Call::Offer { port, byte } => Self::offer(board, port, byte),
             Call::Advance(cycles) => Route::Pass(Span::Cycles(cycles)),
             Call::Skip(limit) => Route::Pass(Span::ToPulse(limit)),
             Call::Reset => Route::Reset,
             Call::Acknowledge => Route::Acknowledge,
-            Call::Malformed => Route::Refused(refusal::BAD_RECORD),
+            Call::Malformed => Route::Refused(Refusal::BadRecord),
         }
     }
 
-    // `read` and `write` each search the table: the compiler inlines the search here, but not in a function that both share.
-    fn read(board: Board, address: u32, size: u8) -> Self
-        ensures { result ≡ private.access_route private.read_route address size (window_at address board.windows) }
+    // An access leads where `own` says of the device in whose window the address lies, and of the offset there. It is compiled for each
+    // caller, and the search of the table inlined in each: in one function for both a record took half as much again.
+    #[inline(always)]
+    fn access<F: FnOnce(Device, u32) -> Self>(board: Board, address: u32, size: u8, own: F) -> Self
+        requires { (device : _) (offset : _) → F.pre own device offset }
+        ensures { (f : _) → ((device : _) (offset : _) (route : _) → F.post own device offset route → route ≡ f device offset) →
+            result ≡ private.access_route f address size (window_at address board.windows) }
     {
         if !is_size(size) {
-            return Route::Refused(refusal::BAD_SIZE);
+            return Route::Refused(Refusal::BadSize);
         }
-        let Found::In(window) = board.window_at(address) else {
-            return Route::Refused(refusal::NO_WINDOW);
+        let Some(window) = board.window_at(address) else {
+            return Route::Refused(Refusal::NoWindow);
         };
-        let number = window_refusal(address, size, window);
-        if number != refusal::NOT_REFUSED {
-            return Route::Refused(number);
+        match judge(address, size, window) {
+            Ok(()) => own(window.device, window.offset(address)),
+            Err(refusal) => Route::Refused(refusal),
         }
-        let device = window.device;
-        Self::read_device(device, window.offset(address))
-    }
-
-    fn write(board: Board, address: u32, size: u8, value: u32) -> Self
-        ensures { result ≡ private.access_route (private.write_route value) address size (window_at address board.windows) }
-    {
-        if !is_size(size) {
-            return Route::Refused(refusal::BAD_SIZE);
-        }
-        let Found::In(window) = board.window_at(address) else {
-            return Route::Refused(refusal::NO_WINDOW);
-        };
-        let number = window_refusal(address, size, window);
-        if number != refusal::NOT_REFUSED {
-            return Route::Refused(number);
-        }
-        let device = window.device;
-        Self::write_device(device, window.offset(address), value)
     }
 
     fn offer(board: Board, port: u8, byte: u8) -> Self
         ensures { result ≡ private.offer_route board port byte }
     {
         if board.ports <= port {
-            return Route::Refused(refusal::NO_PORT);
+            return Route::Refused(Refusal::NoPort);
         }
         Route::Port {
             n: port as usize,
@@ -149,40 +139,32 @@ impl Route {
 fn is_size(size: u8) -> bool
     ensures { result ≡ is_size size }
 {
-    if size == 1 {
-        return true;
-    }
-    if size == 2 {
-        return true;
-    }
-    size == 4
+    matches!(size, 1 | 2 | 4)
 }
 
 // 3 to 5 in that order. Each size is passed on as a constant, so that `address % size` is no division.
-fn window_refusal(address: u32, size: u8, window: Window) -> u8
+fn judge(address: u32, size: u8, window: Window) -> Result<(), Refusal>
     requires { is_size size ≡ true }
-    ensures { result ≡ private.window_number address size window }
+    ensures { result ≡ private.judged address size window }
 {
-    if size == 4 {
-        return place_refusal(address, 4, window, refusal::NOT_REFUSED);
+    match size {
+        4 => return judge_place(address, 4, window),
+        2 => judge_place(address, 2, window)?,
+        _ => judge_place(address, 1, window)?,
     }
-    if size == 2 {
-        return place_refusal(address, 2, window, refusal::NOT_A_WORD);
-    }
-    place_refusal(address, 1, window, refusal::NOT_A_WORD)
+    Err(Refusal::NotAWord)
 }
 
-// 3 and 4 in that order, or `number` where neither is given. The sum of an address and a size may lie past the last 32-bit
-// number.
-fn place_refusal(address: u32, size: u32, window: Window, number: u8) -> u8
+// 3 and 4 in that order. The sum of an address and a size may lie past the last 32-bit number.
+fn judge_place(address: u32, size: u32, window: Window) -> Result<(), Refusal>
     requires { (0 < size) × (size < 5) }
-    ensures { result ≡ private.place_number address size number window }
+    ensures { result ≡ private.placed address size window (Ok tt) }
 {
     if window.end() < address as u64 + size as u64 {
-        return refusal::PAST_WINDOW;
+        return Err(Refusal::PastWindow);
     }
     if address % size != 0 {
-        return refusal::MISALIGNED;
+        return Err(Refusal::Misaligned);
     }
-    number
+    Ok(())
 }

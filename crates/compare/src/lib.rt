@@ -1,7 +1,6 @@
 // Comparing two logs, piece by piece, and the line that says what came of it.
 #![tactic(auto)]
 
-mod bytes;
 pub mod comparison;
 pub mod line;
 mod text;

@@ -1,13 +1,9 @@
 // The line that says what came of a comparison.
 ghost use Rattle.std.specs.Prelude.{◌≡◌, ◌++◌, ◌+◌, ◌≤◌, length};
 ghost use Rattle.script.specs.Buffer.{wrote};
-ghost use Rattle.script.specs.Text.{text, decimal};
-ghost use Rattle.script.specs.declared.entry.Field.TheVariants.{Pulses};
 ghost use Rattle.compare.specs.Line as lines;
-ghost use Rattle.compare.specs.Private.{Put};
-ghost use Rattle.compare.specs.declared.verdict.Verdict.TheVariants.{Refused, Record};
 
-use crate::text::{put, put_decimal_u8, put_decimal_u64};
+use crate::text::Text;
 use crate::verdict::{Log, Verdict};
 use script::entry::Field;
 
@@ -15,100 +11,58 @@ use script::entry::Field;
 pub const LENGTH: usize = 39;
 
 // Puts the verdict's line at the start of the buffer, and answers its length.
+#[tactic(auto, unfolding(crate::specs::Line::line))]
 pub fn put_line(out: &mut [u8; LENGTH], verdict: Verdict) -> usize
     ensures value { result ≡ length (lines.line verdict) }
     ensures written { out.new ≡ wrote out.old 0 (lines.line verdict) }
     ensures within { result ≤ length out.new }
 {
-    let at = put_verdict(out, verdict);
-    put(out, at, b"\n")
+    verdict_text(verdict).put(b"\n").copy_to(out)
 }
 
-fn put_verdict(out: &mut [u8], verdict: Verdict) -> usize
-    requires { 38 ≤ length out.old }
-    ensures put { Put out.old 0 (lines.verdict_text verdict) result out.new }
-    ensures within { result ≤ 38 }
+#[tactic(auto, using(crate::proofs::text::Digits::byte_digits, crate::proofs::text::Digits::long_digits))]
+fn verdict_text(verdict: Verdict) -> Text
+    ensures text { result ≡ lines.verdict_text verdict }
+    ensures within { length result ≤ 38 }
 {
+    let text = Text::new();
     match verdict {
-        Verdict::Refused { log, number } => put_refused(out, log, number),
-        Verdict::Record { number, field } => put_record(out, number, field),
-        Verdict::Partial(log) => put_word_and_log(out, b"partial ", log),
-        Verdict::Beginning(log) => put_word_and_log(out, b"beginning ", log),
-        Verdict::Equal => put(out, 0, b"equal"),
+        Verdict::Refused { log, number } => {
+            let text = text.put(b"refused ").put(log_text(log));
+            text.put(b" ").put_decimal(number as u64)
+        }
+        Verdict::Record { number, field } => {
+            let text = text.put(b"record ").put_decimal(number);
+            put_field(text.put(b" "), field)
+        }
+        Verdict::Partial(log) => text.put(b"partial ").put(log_text(log)),
+        Verdict::Beginning(log) => text.put(b"beginning ").put(log_text(log)),
+        Verdict::Equal => text.put(b"equal"),
     }
 }
 
-fn put_refused(out: &mut [u8], log: Log, number: u8) -> usize
-    requires { 38 ≤ length out.old }
-    ensures put { Put out.old 0 (lines.verdict_text (Refused log number)) result out.new }
-    ensures within { result ≤ 38 }
-{
-    let at = put_word_and_log(out, b"refused ", log);
-    let at = put(out, at, b" ");
-    put_decimal_u8(out, at, number)
-}
-
-fn put_record(out: &mut [u8], number: u64, field: Field) -> usize
-    requires { 38 ≤ length out.old }
-    ensures put { Put out.old 0 (lines.verdict_text (Record number field)) result out.new }
-    ensures within { result ≤ 38 }
-{
-    let at = put_record_number(out, number);
-    let at = put(out, at, b" ");
-    put_field(out, at, field)
-}
-
-// `record 3`
-fn put_record_number(out: &mut [u8], number: u64) -> usize
-    requires { 27 ≤ length out.old }
-    ensures put { Put out.old 0 (text "record " ++ decimal number) result out.new }
-    ensures within { result ≤ 27 }
-{
-    let at = put(out, 0, b"record ");
-    put_decimal_u64(out, at, number)
-}
-
-// `partial 1`
-fn put_word_and_log(out: &mut [u8], word: &[u8], log: Log) -> usize
-    requires { length word.now + 1 ≤ length out.old }
-    ensures put { Put out.old 0 (word.now ++ lines.log_text log) result out.new }
-    ensures within { result ≤ length word.now + 1 }
-{
-    let at = put(out, 0, word);
-    put_log(out, at, log)
-}
-
-fn put_log(out: &mut [u8], at: usize, log: Log) -> usize
-    requires { at + 1 ≤ length out.old }
-    ensures put { Put out.old at (lines.log_text log) result out.new }
-    ensures within { result ≤ at + 1 }
+fn log_text(log: Log) -> &'static [u8]
+    ensures text { result.now ≡ lines.log_text log }
+    ensures within { length result.now ≤ 1 }
 {
     match log {
-        Log::First => put(out, at, b"1"),
-        Log::Second => put(out, at, b"2"),
+        Log::First => b"1",
+        Log::Second => b"2",
     }
 }
 
-fn put_field(out: &mut [u8], at: usize, field: Field) -> usize
-    requires { at + 10 ≤ length out.old }
-    ensures put { Put out.old at (lines.field_text field) result out.new }
-    ensures within { result ≤ at + 10 }
+#[tactic(auto, using(crate::proofs::text::Digits::byte_digits))]
+fn put_field(text: Text, field: Field) -> Text
+    requires { length text + 10 ≤ 39 }
+    ensures put { result ≡ text ++ lines.field_text field }
+    ensures within { length result ≤ length text + 10 }
 {
     match field {
-        Field::Number => put(out, at, b"number"),
-        Field::Emitted => put(out, at, b"emitted"),
-        Field::Levels => put(out, at, b"levels"),
-        Field::Value => put(out, at, b"value"),
-        Field::Cycles => put(out, at, b"cycles"),
-        Field::Pulses(timer) => put_pulses(out, at, timer),
+        Field::Number => text.put(b"number"),
+        Field::Emitted => text.put(b"emitted"),
+        Field::Levels => text.put(b"levels"),
+        Field::Value => text.put(b"value"),
+        Field::Cycles => text.put(b"cycles"),
+        Field::Pulses(timer) => text.put(b"pulses ").put_decimal(timer as u64),
     }
-}
-
-fn put_pulses(out: &mut [u8], at: usize, timer: u8) -> usize
-    requires { at + 10 ≤ length out.old }
-    ensures put { Put out.old at (lines.field_text (Pulses timer)) result out.new }
-    ensures within { result ≤ at + 10 }
-{
-    let at = put(out, at, b"pulses ");
-    put_decimal_u8(out, at, timer)
 }

@@ -1,56 +1,71 @@
-// Texts and decimal numbers in a lent buffer. Each function answers where what it put ends.
-ghost use Rattle.std.specs.Prelude.{[], ◌∷◌, ◌+◌, ◌≤◌, length};
-ghost use Rattle.script.specs.Text.{digit, decimal};
-ghost use Rattle.compare.specs.Private.{Put};
+// A line in the making: texts and decimal numbers, put one behind the other.
+ghost use Rattle.std.specs.Prelude.{ℕ, ◌≡◌, ◌+◌, ◌≤◌, List, [], ◌++◌, length, take};
+ghost use Rattle.script.specs.Buffer.{wrote};
+ghost use Rattle.script.specs.Text.{decimal};
 
-// Puts a text, from `at` on.
-pub(crate) fn put(out: &mut [u8], at: usize, text: &[u8]) -> usize
-    requires { at + length text.now ≤ length out.old }
-    ensures { Put out.old at text.now result out.new }
-{
-    let mut i = 0;
-    while i < text.len() {
-        out[at + i] = text[i];
-        i += 1;
+use crate::line::LENGTH;
+use std::marker::Model;
+
+// What is put so far, and room for the rest of a line.
+#[derive(Drop)]
+pub(crate) struct Text {
+    bytes: [u8; LENGTH],
+    end: usize,
+}
+
+// Clauses see the bytes that are put.
+impl Model for Text {
+    ghost Value = { List ℕ };
+
+    ghost view = { λ t. take t.end t.bytes };
+
+    ghost invariant = { λ t. t.end ≤ 39 };
+}
+
+impl Text {
+    pub(crate) fn new() -> Self
+        ensures put { result ≡ [] }
+        ensures len { length result ≡ 0 }
+    {
+        Text {
+            bytes: [0; LENGTH],
+            end: 0,
+        }
     }
-    at + i
-}
 
-// Puts a number of 8 bits, of three digits at most.
-pub(crate) fn put_decimal_u8(out: &mut [u8], at: usize, n: u8) -> usize
-    requires { at + 3 ≤ length out.old }
-    ensures put { Put out.old at (decimal n) result out.new }
-    ensures within { result ≤ at + 3 }
-{
-    put_decimal(out, at, n as u64)
-}
-
-// Puts a number of 64 bits, of 20 digits at most.
-pub(crate) fn put_decimal_u64(out: &mut [u8], at: usize, n: u64) -> usize
-    requires { at + 20 ≤ length out.old }
-    ensures put { Put out.old at (decimal n) result out.new }
-    ensures within { result ≤ at + 20 }
-{
-    put_decimal(out, at, n)
-}
-
-// The digits of a number's tenth come before its last one.
-fn put_decimal(out: &mut [u8], at: usize, n: u64) -> usize
-    requires { at + length (decimal n) ≤ length out.old }
-    ensures { Put out.old at (decimal n) result out.new }
-{
-    if n < 10 {
-        return put_digit(out, at, n);
+    pub(crate) fn put(mut self, more: &[u8]) -> Self
+        requires { length self + length more.now ≤ 39 }
+        ensures put { result ≡ self ++ more.now }
+        ensures len { length result ≡ length self + length more.now }
+    {
+        let from = self.end;
+        let end = from + more.len();
+        self.bytes[from..end].copy_from_slice(more);
+        self.end = end;
+        self
     }
-    let end = put_decimal(out, at, n / 10);
-    put_digit(out, end, n)
-}
 
-// Puts a number's last digit.
-fn put_digit(out: &mut [u8], at: usize, n: u64) -> usize
-    requires { at + 1 ≤ length out.old }
-    ensures { Put out.old at (digit n ∷ []) result out.new }
-{
-    out[at] = b'0' + (n % 10) as u8;
-    at + 1
+    // The digits of a number's tenth come before its last one.
+    #[tactic(auto, using(crate::proofs::text::Digits::digit_by_digit))]
+    pub(crate) fn put_decimal(self, n: u64) -> Self
+        requires { length self + length (decimal n) ≤ 39 }
+        ensures put { result ≡ self ++ decimal n }
+        ensures len { length result ≡ length self + length (decimal n) }
+    {
+        let digit = b'0' + (n % 10) as u8;
+        if n < 10 {
+            return self.put(&[digit]);
+        }
+        self.put_decimal(n / 10).put(&[digit])
+    }
+
+    // Copies what is put to the start of a buffer, and answers how much that is.
+    pub(crate) fn copy_to(&self, out: &mut [u8; LENGTH]) -> usize
+        ensures value { result ≡ length self.now }
+        ensures written { out.new ≡ wrote out.old 0 self.now }
+    {
+        let text = &self.bytes[..self.end];
+        out[..text.len()].copy_from_slice(text);
+        text.len()
+    }
 }

@@ -9,19 +9,11 @@ pub mod Direct
 use Rattle.std.specs.Prelude.{ℕ, zero, suc, ◌+◌, ◌-◌, ◌/◌, ◌%◌, ◌^◌, Bool, true, false, cond, not, ◌&&◌, ◌||◌, List, [], ◌∷◌, map, set, ◌==◌, nat_le, nat_lt, slice_index_or, slice_set}
 use Rattle.devices.specs.Word.{bit}
 use Rattle.devices.specs.Register.{one_of}
-use Rattle.devices.specs.Refusal.{not_refused, no_register}
+use Rattle.devices.specs.Refusal.{no_register}
+use Rattle.devices.specs.Answer.{Answer, refused, accepted}
 use Rattle.devices.specs.declared.gptimer.Timer.{Timer}
 use Rattle.devices.specs.declared.gptimer.Gptimer.{Gptimer}
-use Rattle.devices.specs.declared.gptimer.Answer.{Answer}
 use Rattle.devices.specs.declared.gptimer.Elapsed.{Elapsed}
-
--- "A refusal returns the same machine, value 0". "Anything else that a record's kind does not produce is 0, here and in the call's
--- own answer."
-abbrev pub refused : ℕ → Gptimer → Answer
-refused number u = record { refusal = number; value = 0; unit = u }
-
-abbrev pub accepted : ℕ → Gptimer → Answer
-accepted value u = record { refusal = not_refused; value = value; unit = u }
 
 -- A unit, and a timer, with one field changed.
 abbrev pub with_scaler : ℕ → Gptimer → Gptimer
@@ -160,14 +152,14 @@ has_register offset =
 -- 02, No. 5: "Word accesses to an offset without a register get number 13", "+0x0C of the timer blocks included"; and a device's
 -- own call, 01 says, "answers an offset that is no register's, odd ones included, as a word offset without a register is
 -- answered." Of timer n, by the offset from 0x10·n:
-abbrev pub read_timer : ℕ → ℕ → Gptimer → Answer
+abbrev pub read_timer : ℕ → ℕ → Gptimer → Answer Gptimer
 read_timer n offset u =
     cond (offset == COUNTER) (accepted (timer n u).counter u)
     (cond (offset == RELOAD) (accepted (timer n u).reload u)
     (cond (offset == CONTROL) (accepted (read_control (timer n u)) u)
     (refused no_register u)))
 
-abbrev pub write_timer : ℕ → ℕ → ℕ → Gptimer → Answer
+abbrev pub write_timer : ℕ → ℕ → ℕ → Gptimer → Answer Gptimer
 write_timer n offset value u =
     cond (offset == COUNTER) (accepted 0 (with_timer n (with_counter value (timer n u)) u))
     (cond (offset == RELOAD) (accepted 0 (with_timer n (with_reload value (timer n u)) u))
@@ -175,7 +167,7 @@ write_timer n offset value u =
     (refused no_register u)))
 
 -- Of the unit:
-unfoldable pub read : ℕ → Gptimer → Answer
+unfoldable pub read : ℕ → Gptimer → Answer Gptimer
 read offset u =
     cond (offset == SCALER) (accepted u.scaler u)
     (cond (offset == SRELOAD) (accepted u.sreload u)
@@ -183,7 +175,7 @@ read offset u =
     (cond (is_timer (offset / STRIDE)) (read_timer (offset / STRIDE) (offset % STRIDE) u)
     (refused no_register u))))
 
-unfoldable pub write : ℕ → ℕ → Gptimer → Answer
+unfoldable pub write : ℕ → ℕ → Gptimer → Answer Gptimer
 write offset value u =
     cond (offset == SCALER) (accepted 0 (write_scaler value u))
     (cond (offset == SRELOAD) (accepted 0 (write_sreload value u))

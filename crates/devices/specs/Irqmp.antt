@@ -6,17 +6,9 @@ pub mod Words
 use Rattle.std.specs.Prelude.{ℕ, zero, suc, ◌^◌, Bool, cond, ◌&&◌, ◌||◌, List, [], ◌∷◌, ◌==◌, bit_and, bit_or, nat_le, nat_lt}
 use Rattle.devices.specs.Word.{bit, without}
 use Rattle.devices.specs.Register.{one_of}
-use Rattle.devices.specs.Refusal.{not_refused, ill_formed, no_register}
+use Rattle.devices.specs.Refusal.{ill_formed, no_register}
+use Rattle.devices.specs.Answer.{Answer, refused, accepted}
 use Rattle.devices.specs.declared.irqmp.Irqmp.{Irqmp}
-use Rattle.devices.specs.declared.irqmp.Answer.{Answer}
-
--- "A refusal returns the same machine, value 0". "Anything else that a record's kind does not produce is 0, here and in the call's
--- own answer."
-abbrev pub refused : ℕ → Irqmp → Answer
-refused number c = record { refusal = number; value = 0; controller = c }
-
-abbrev pub accepted : ℕ → Irqmp → Answer
-accepted value c = record { refusal = not_refused; value = value; controller = c }
 
 -- A controller with one register changed.
 abbrev pub with_level : ℕ → Irqmp → Irqmp
@@ -86,7 +78,7 @@ has_register offset = one_of registers offset
 -- pending bits; it reads 0. Extended acknowledge ignores writes." No. 5: "Word accesses to an offset without a register get number
 -- 13"; and a device's own call, 01 says, "answers an offset that is no register's, odd ones included, as a word offset without a
 -- register is answered."
-abbrev pub read_register : ℕ → Irqmp → Answer
+abbrev pub read_register : ℕ → Irqmp → Answer Irqmp
 read_register offset c =
     cond (offset == LEVEL) (accepted c.level c)
     (cond (offset == PENDING) (accepted c.pending c)
@@ -96,7 +88,7 @@ read_register offset c =
     (cond (offset == EXTENDED) (accepted c.extended c)
     (refused no_register c))))))
 
-abbrev pub write_register : ℕ → ℕ → Irqmp → Answer
+abbrev pub write_register : ℕ → ℕ → Irqmp → Answer Irqmp
 write_register offset value c =
     cond (offset == LEVEL) (accepted 0 (with_level (bit_and value lines_1_to_15) c))
     (cond (offset == PENDING) (accepted 0 (with_pending (bit_and value lines_1_to_31) c))
@@ -150,22 +142,22 @@ abbrev pub taken : ℕ → Irqmp → Irqmp
 taken n c = cond (n == 0) c (cond (n == 12) (take12 c) (take n c))
 
 -- "9 first"; "Every call on a machine is subject to 9, reset too."; "A device's own call judges 9 by that device alone"
-abbrev pub guarded : Irqmp → Answer → Answer
+abbrev pub guarded : Irqmp → Answer Irqmp → Answer Irqmp
 guarded c answer = cond (well_formed c) answer (refused ill_formed c)
 
 -- The five calls on a controller. "A new script kind 7 acknowledges: .. the value read is the line taken (12 for an extended one)
 -- or 0."
-unfoldable pub read : ℕ → Irqmp → Answer
+unfoldable pub read : ℕ → Irqmp → Answer Irqmp
 read offset c = guarded c (read_register offset c)
 
-unfoldable pub write : ℕ → ℕ → Irqmp → Answer
+unfoldable pub write : ℕ → ℕ → Irqmp → Answer Irqmp
 write offset value c = guarded c (write_register offset value c)
 
-unfoldable pub set_pending : ℕ → Irqmp → Answer
+unfoldable pub set_pending : ℕ → Irqmp → Answer Irqmp
 set_pending lines c = guarded c (accepted 0 (with_lines lines c))
 
-unfoldable pub acknowledge : Irqmp → Answer
+unfoldable pub acknowledge : Irqmp → Answer Irqmp
 acknowledge c = guarded c (accepted (line_taken c) (taken (line_taken c) c))
 
-unfoldable pub reset : Irqmp → Answer
+unfoldable pub reset : Irqmp → Answer Irqmp
 reset c = guarded c (accepted 0 reset_state)

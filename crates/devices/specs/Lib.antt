@@ -6,6 +6,7 @@
 pub mod Word
 pub mod Refusal
 pub mod Register
+pub mod Answer
 pub mod Apbuart
 pub mod Fifo
 pub mod Gptimer

@@ -4,12 +4,13 @@ ghost use Rattle.std.specs.Prelude.{◌≡◌, ◌≤◌, ◌&&◌, length};
 ghost use Rattle.devices.specs.Apbuart as uart;
 ghost use Rattle.devices.specs.Fifo.{queued};
 ghost use Rattle.devices.specs.Apbuart.Call.{answer_to};
-ghost use Rattle.devices.specs.Apbuart.View.{port_of, answer_of, Conforms};
+ghost use Rattle.devices.specs.Apbuart.View.{port_of, done_in, answer_of, Conforms};
 
+use crate::answer;
 use crate::fifo::{DEPTH, Fifo};
-use crate::refusal;
+use crate::refusal::Refusal;
 
-#[derive(Clone, Copy)]
+#[derive(Clone, Copy, Debug)]
 pub struct Apbuart {
     pub control: u32,
     pub scaler: u8,
@@ -19,63 +20,54 @@ pub struct Apbuart {
 }
 
 // A call that a bus makes on one port.
-#[derive(Clone, Copy)]
+#[derive(Clone, Copy, Debug, PartialEq, Eq)]
 pub enum Call {
     Read { offset: u32 },
     Write { offset: u32, value: u32 },
     Offer { byte: u8 },
 }
 
-// What a call on a port answers.
-#[derive(Clone, Copy)]
-pub struct Answer {
-    // The refusal number; refusal::NOT_REFUSED where the call was not refused.
-    pub refusal: u8,
-    // The value read.
+// What an accepted call on a port gives: the value read, and the byte that it emitted.
+#[derive(Clone, Copy, Debug, Default, PartialEq, Eq)]
+pub struct Done {
     pub value: u32,
-    // Whether the call emitted a byte, and that byte, else 0.
-    pub emitted: bool,
-    pub byte: u8,
-    // The port after the call.
-    pub port: Apbuart,
+    pub emitted: Option<u8>,
 }
 
-impl Answer {
-    fn refused(refusal: u8, port: Apbuart) -> Self
-        ensures { (answer_of result ≡ uart.refused refusal (port_of port)) × (result.port ≡ port) }
-    {
-        Answer {
-            refusal,
-            value: 0,
-            emitted: false,
-            byte: 0,
-            port,
-        }
-    }
+// What a call on a port answers.
+pub type Answer = answer::Answer<Apbuart, Done>;
 
-    fn accepted(value: u32, port: Apbuart) -> Self
-        ensures { answer_of result ≡ uart.accepted value (port_of port) }
+impl answer::Answer<Apbuart, Done> {
+    // What the call gave: nothing where it was refused.
+    pub fn done(&self) -> Done
+        ensures { result ≡ done_in self.now.outcome }
     {
-        Answer {
-            refusal: refusal::NOT_REFUSED,
+        self.outcome.unwrap_or_default()
+    }
+}
+
+fn accepted(value: u32, port: Apbuart) -> Answer
+    ensures { answer_of result ≡ uart.accepted value (port_of port) }
+{
+    Answer::accepted(
+        Done {
             value,
-            emitted: false,
-            byte: 0,
-            port,
-        }
-    }
+            emitted: None,
+        },
+        port,
+    )
+}
 
-    fn emitting(byte: u8, port: Apbuart) -> Self
-        ensures { answer_of result ≡ uart.emitting byte (port_of port) }
-    {
-        Answer {
-            refusal: refusal::NOT_REFUSED,
+fn emitting(byte: u8, port: Apbuart) -> Answer
+    ensures { answer_of result ≡ uart.emitting byte (port_of port) }
+{
+    Answer::accepted(
+        Done {
             value: 0,
-            emitted: true,
-            byte,
-            port,
-        }
-    }
+            emitted: Some(byte),
+        },
+        port,
+    )
 }
 
 impl Apbuart {
@@ -125,55 +117,57 @@ impl Apbuart {
     }
 
     // SCALER and the level have no ill-formed value; the queue's head counts modulo its depth.
+    #[tactic(auto, unfolding(crate::specs::Apbuart::well_formed))]
     pub fn well_formed(self) -> bool
         ensures { result ≡ uart.well_formed (port_of self) }
     {
-        if self.control / Self::FA % 2 == 1 {
-            self.queue.len() <= DEPTH
-        } else {
-            false
-        }
+        self.control / Self::FA % 2 == 1 && self.queue.len() <= DEPTH
     }
 
-    // The reset call; an ill-formed port is refused it like any other.
+    // The reset call; an ill-formed port is refused it like any other. (Each call asks for itself: in a generic function that takes the
+    // call as a closure it is as long, and that of `read` then needs clauses of its own.)
+    #[tactic(auto, unfolding(crate::specs::Apbuart::reset))]
     pub fn reset(self) -> Answer
         ensures { Conforms self (uart.reset (port_of self)) result }
     {
         if self.well_formed() {
-            Answer::accepted(0, Self::reset_state())
+            accepted(0, Self::reset_state())
         } else {
-            Answer::refused(refusal::ILL_FORMED, self)
+            Answer::refused(Refusal::IllFormed, self)
         }
     }
 
+    #[tactic(auto, unfolding(crate::specs::Apbuart::read))]
     pub fn read(self, offset: u32) -> Answer
         ensures { Conforms self (uart.read offset (port_of self)) result }
     {
         if self.well_formed() {
             self.read_register(offset)
         } else {
-            Answer::refused(refusal::ILL_FORMED, self)
+            Answer::refused(Refusal::IllFormed, self)
         }
     }
 
+    #[tactic(auto, unfolding(crate::specs::Apbuart::write))]
     pub fn write(self, offset: u32, value: u32) -> Answer
         ensures { Conforms self (uart.write offset value (port_of self)) result }
     {
         if self.well_formed() {
             self.write_register(offset, value)
         } else {
-            Answer::refused(refusal::ILL_FORMED, self)
+            Answer::refused(Refusal::IllFormed, self)
         }
     }
 
     // A byte is offered to the receiver.
+    #[tactic(auto, unfolding(crate::specs::Apbuart::offer))]
     pub fn offer(self, byte: u8) -> Answer
         ensures { Conforms self (uart.offer byte (port_of self)) result }
     {
         if self.well_formed() {
             self.receive(byte)
         } else {
-            Answer::refused(refusal::ILL_FORMED, self)
+            Answer::refused(Refusal::IllFormed, self)
         }
     }
 
@@ -192,59 +186,46 @@ impl Apbuart {
         requires { length (queued self.queue) ≤ uart.depth }
         ensures { Conforms self (uart.read_register offset (port_of self)) result }
     {
-        if offset == Self::DATA {
-            return self.read_data();
+        match offset {
+            Self::DATA => self.read_data(),
+            Self::STATUS => self.read_status(),
+            Self::CONTROL => accepted(self.control, self),
+            Self::SCALER => accepted(self.scaler as u32, self),
+            _ => Answer::refused(Refusal::NoRegister, self),
         }
-        if offset == Self::STATUS {
-            return self.read_status();
-        }
-        if offset == Self::CONTROL {
-            return Answer::accepted(self.control, self);
-        }
-        if offset == Self::SCALER {
-            return Answer::accepted(self.scaler as u32, self);
-        }
-        Answer::refused(refusal::NO_REGISTER, self)
     }
 
     fn write_register(self, offset: u32, value: u32) -> Answer
         ensures { Conforms self (uart.write_register offset value (port_of self)) result }
     {
-        if offset == Self::DATA {
-            return self.write_data(value);
+        match offset {
+            Self::DATA => self.write_data(value),
+            Self::STATUS => accepted(0, self),
+            Self::CONTROL => self.write_control(value),
+            Self::SCALER => self.write_scaler(value),
+            // Nothing is stored where there is no register.
+            _ => Answer::refused(Refusal::NoRegister, self),
         }
-        if offset == Self::STATUS {
-            return Answer::accepted(0, self);
-        }
-        if offset == Self::CONTROL {
-            return self.write_control(value);
-        }
-        if offset == Self::SCALER {
-            return self.write_scaler(value);
-        }
-        // Nothing is stored where there is no register.
-        Answer::refused(refusal::NO_REGISTER, self)
     }
 
     fn read_data(self) -> Answer
         ensures { Conforms self (uart.read_data (port_of self)) result }
     {
-        if self.byte_waits(self.control / Self::RE % 2 == 1) {
+        if self.control / Self::RE % 2 == 1 && 0 < self.queue.len() {
             let mut port = self;
             port.queue = self.queue.pop();
-            Answer::accepted(self.queue.oldest() as u32, port)
-        } else {
-            Answer::accepted(0, self)
+            return accepted(self.queue.oldest() as u32, port);
         }
+        accepted(0, self)
     }
 
     fn write_data(self, value: u32) -> Answer
         ensures { Conforms self (uart.write_data value (port_of self)) result }
     {
         if self.control / Self::TE % 2 == 1 {
-            Answer::emitting((value % 256) as u8, self)
+            emitting((value % 256) as u8, self)
         } else {
-            Answer::accepted(0, self)
+            accepted(0, self)
         }
     }
 
@@ -255,69 +236,55 @@ impl Apbuart {
     {
         let count = self.queue.len();
         if 0 < count {
-            Answer::accepted(
+            accepted(
                 Self::STATUS_IDLE + Self::DR + count as u32 * Self::RCNT,
                 self,
             )
         } else {
-            Answer::accepted(Self::STATUS_IDLE, self)
+            accepted(Self::STATUS_IDLE, self)
         }
     }
 
-    fn write_control(self, value: u32) -> Answer
+    fn write_control(mut self, value: u32) -> Answer
         ensures { Conforms self (uart.write_control value (port_of self)) result }
     {
-        let mut port = self;
-        port.control = value % Self::FA + Self::FA;
-        Answer::accepted(0, port.update_level())
+        self.control = value % Self::FA + Self::FA;
+        accepted(0, self.update_level())
     }
 
-    fn write_scaler(self, value: u32) -> Answer
+    fn write_scaler(mut self, value: u32) -> Answer
         ensures { Conforms self (uart.write_scaler value (port_of self)) result }
     {
-        let mut port = self;
-        port.scaler = (value % 256) as u8;
-        Answer::accepted(0, port)
+        self.scaler = (value % 256) as u8;
+        accepted(0, self)
     }
 
     // The refusals stand in the order of their numbers.
+    #[tactic(auto, using(crate::proofs::fifo::Ring::has_room))]
     fn receive(self, byte: u8) -> Answer
         ensures { Conforms self (uart.receive byte (port_of self)) result }
     {
-        let count = self.queue.len();
         if self.control / Self::RE % 2 != 1 {
-            return Answer::refused(refusal::RECEIVER_OFF, self);
+            return Answer::refused(Refusal::ReceiverOff, self);
         }
-        if DEPTH <= count {
-            return Answer::refused(refusal::QUEUE_FULL, self);
+        if DEPTH <= self.queue.len() {
+            return Answer::refused(Refusal::QueueFull, self);
         }
         let mut port = self;
         port.queue = self.queue.push(byte);
-        Answer::accepted(0, port.update_level())
+        accepted(0, port.update_level())
     }
 
     fn update_level(mut self) -> Self
         ensures { port_of result ≡ uart.update_level (port_of self) }
     {
-        let level = self.line_level();
-        self.level = level;
+        self.level = self.line_level();
         self
     }
 
     fn line_level(self) -> bool
         ensures { result ≡ uart.line_level (port_of self) }
     {
-        if self.byte_waits(self.control / Self::RI % 2 == 1) {
-            true
-        } else {
-            self.control / Self::TI % 2 == 1
-        }
-    }
-
-    // Whether a byte waits for what is enabled: for the receiver a DATA read takes it, for its interrupt it raises the line.
-    fn byte_waits(self, enabled: bool) -> bool
-        ensures { result ≡ (enabled && uart.not_empty (port_of self)) }
-    {
-        if enabled { 0 < self.queue.len() } else { false }
+        self.control / Self::RI % 2 == 1 && 0 < self.queue.len() || self.control / Self::TI % 2 == 1
     }
 }

@@ -1,4 +1,5 @@
-// The receive queue of a serial port: a ring of DEPTH places, by value. Only the port calls it.
+// The receive queue of a serial port: a ring of DEPTH places, by value. Only the port calls it. (With `pop(&mut self) -> Option<u8>` a
+// record of a run took 5 instructions more, and a run 4 in a hundred longer.)
 ghost use Rattle.std.specs.Prelude.{◌≡◌, ◌<◌, [], ◌∷◌, ◌++◌, length};
 ghost use Rattle.devices.specs.Apbuart.{depth, oldest, younger};
 ghost use Rattle.devices.specs.Fifo.{queued};
@@ -6,7 +7,7 @@ ghost use Rattle.devices.specs.Fifo.{queued};
 // How many bytes can wait.
 pub const DEPTH: usize = 8;
 
-#[derive(Clone, Copy)]
+#[derive(Clone, Copy, Debug)]
 pub struct Fifo {
     pub places: [u8; DEPTH],
     // The oldest byte's place, counted modulo DEPTH, so that no value of it is ill formed.
@@ -26,6 +27,7 @@ impl Fifo {
         }
     }
 
+    #[tactic(auto, using(crate::proofs::fifo::Ring::ring_length))]
     pub(crate) fn len(self) -> usize
         ensures { result ≡ length (queued self) }
     {
@@ -33,6 +35,7 @@ impl Fifo {
     }
 
     // The byte that has waited longest; 0 where none waits.
+    #[tactic(auto, using(crate::proofs::fifo::Ring::ring_oldest))]
     pub(crate) fn oldest(self) -> u8
         ensures { result ≡ oldest (queued self) }
     {
@@ -44,6 +47,7 @@ impl Fifo {
     }
 
     // The queue once its oldest byte has left.
+    #[tactic(auto, using(crate::proofs::fifo::Ring::ring_younger))]
     pub(crate) fn pop(mut self) -> Self
         ensures { queued result ≡ younger (queued self) }
     {
@@ -56,6 +60,7 @@ impl Fifo {
     }
 
     // The queue with one byte more at its end, where it has room for it.
+    #[tactic(auto, using(crate::proofs::fifo::Ring::ring_push))]
     pub(crate) fn push(mut self, byte: u8) -> Self
         requires { self.count < depth }
         ensures { queued result ≡ queued self ++ (byte ∷ []) }

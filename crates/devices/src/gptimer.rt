@@ -4,13 +4,15 @@
 // out by divisions (`specs/Gptimer/Direct.antt`), and a skip from the time of the next pulse.
 ghost use Rattle.std.specs.Prelude.{◌≡◌, suc, ◌<◌, ◌≤◌, min, false, if◌then◌else◌};
 ghost use Rattle.devices.specs.Word.{bit};
+ghost use Rattle.devices.specs.Answer.View.{answer_of};
 ghost use Rattle.devices.specs.Gptimer as gpt;
 ghost use Rattle.devices.specs.Gptimer.Direct as direct;
 ghost use Rattle.devices.specs.Gptimer.Span as spans;
 
-use crate::refusal;
+use crate::answer;
+use crate::refusal::Refusal;
 
-#[derive(Clone, Copy)]
+#[derive(Clone, Copy, Debug, PartialEq, Eq)]
 pub struct Timer {
     pub counter: u32,
     pub reload: u32,
@@ -22,7 +24,7 @@ pub struct Timer {
     pub ch: bool,
 }
 
-#[derive(Clone, Copy)]
+#[derive(Clone, Copy, Debug, PartialEq, Eq)]
 pub struct Gptimer {
     // The prescaler's value and reload.
     pub scaler: u16,
@@ -34,18 +36,10 @@ pub struct Gptimer {
 }
 
 // What an access answers.
-#[derive(Clone, Copy)]
-pub struct Answer {
-    // The refusal number; refusal::NOT_REFUSED where the call was not refused.
-    pub refusal: u8,
-    // The value read.
-    pub value: u32,
-    // The unit after the call.
-    pub unit: Gptimer,
-}
+pub type Answer = answer::Answer<Gptimer>;
 
 // What a span of time answers.
-#[derive(Clone, Copy)]
+#[derive(Clone, Copy, Debug, PartialEq, Eq)]
 pub struct Elapsed {
     // The cycles passed.
     pub cycles: u64,
@@ -56,7 +50,7 @@ pub struct Elapsed {
 }
 
 // How time is to pass.
-#[derive(Clone, Copy)]
+#[derive(Clone, Copy, Debug, PartialEq, Eq)]
 pub enum Span {
     // By so many cycles.
     Cycles(u64),
@@ -64,16 +58,16 @@ pub enum Span {
     ToPulse(u64),
 }
 
-// Whether a span ends before the prescaler's next tick.
-#[derive(Clone, Copy)]
-pub enum BeforeTick {
-    // Its cycles, and the prescaler's value after them: nothing else changes, and no timer has a pulse.
-    Yes { cycles: u64, scaler: u16 },
-    No,
+// A span that ends before the prescaler's next tick: nothing changes but the prescaler's value, and no timer has a pulse.
+#[derive(Clone, Copy, Debug, PartialEq, Eq)]
+pub struct Short {
+    pub cycles: u64,
+    // The prescaler's value after them.
+    pub scaler: u16,
 }
 
 // What some ticks do to a timer.
-#[derive(Clone, Copy)]
+#[derive(Clone, Copy, Debug, PartialEq, Eq)]
 struct Served {
     underflows: u64,
     pulses: u64,
@@ -81,32 +75,10 @@ struct Served {
 }
 
 // A countdown that has ended and started again: how often, and where it stands.
-#[derive(Clone, Copy)]
+#[derive(Clone, Copy, Debug, PartialEq, Eq)]
 struct Restarted {
     ends: u64,
     value: u32,
-}
-
-impl Answer {
-    fn refused(refusal: u8, unit: Gptimer) -> Self
-        ensures { result ≡ gpt.refused refusal unit }
-    {
-        Answer {
-            refusal,
-            value: 0,
-            unit,
-        }
-    }
-
-    fn accepted(value: u32, unit: Gptimer) -> Self
-        ensures { result ≡ gpt.accepted value unit }
-    {
-        Answer {
-            refusal: refusal::NOT_REFUSED,
-            value,
-            unit,
-        }
-    }
 }
 
 impl Span {
@@ -183,11 +155,11 @@ impl Timer {
     fn read_control(self) -> u32
         ensures { result ≡ gpt.read_control self }
     {
-        flag(self.en, Self::EN)
-            + flag(self.rs, Self::RS)
-            + flag(self.ie, Self::IE)
-            + flag(self.ip, Self::IP)
-            + flag(self.ch, Self::CH)
+        u32::from(self.en) * Self::EN
+            + u32::from(self.rs) * Self::RS
+            + u32::from(self.ie) * Self::IE
+            + u32::from(self.ip) * Self::IP
+            + u32::from(self.ch) * Self::CH
     }
 
     fn write_control(mut self, value: u32) -> Self
@@ -206,7 +178,6 @@ impl Timer {
     {
         if value / Self::IP % 2 == 1 {
             self.ip = false;
-            return self;
         }
         self
     }
@@ -217,7 +188,6 @@ impl Timer {
     {
         if value / Self::LD % 2 == 1 {
             self.counter = self.reload;
-            return self;
         }
         self
     }
@@ -226,65 +196,65 @@ impl Timer {
     fn serve(self, ticks: u64, before: u64) -> Served
         ensures { result ≡ direct.served_timer ticks before self }
     {
-        if self.ch {
-            return self.count(before);
-        }
-        self.count(ticks)
+        self.count(if self.ch { before } else { ticks })
     }
 
     // The timer after some counts.
+    #[tactic(auto, using(crate::proofs::gptimer::Counting::counting))]
     fn count(mut self, counts: u64) -> Served
         ensures { result ≡ direct.counted_timer counts self }
     {
-        if self.en {
-            if counts <= self.counter as u64 {
-                self.counter = std::num::wrapping_sub_u32(self.counter, counts as u32);
-                return Served {
-                    underflows: 0,
-                    pulses: 0,
-                    timer: self,
-                };
-            }
-            self.ip = true;
-            if self.rs {
-                let restarted = restart(self.counter, self.reload, counts);
-                self.counter = restarted.value;
-                return Served {
-                    underflows: restarted.ends,
-                    pulses: self.pulses(restarted.ends),
-                    timer: self,
-                };
-            }
-            self.counter = Self::AT_REST;
-            self.en = false;
+        if !self.en {
             return Served {
-                underflows: 1,
-                pulses: self.pulses(1),
+                underflows: 0,
+                pulses: 0,
                 timer: self,
             };
         }
+        if counts <= self.counter as u64 {
+            self.counter = self.counter.wrapping_sub(counts as u32);
+            return Served {
+                underflows: 0,
+                pulses: 0,
+                timer: self,
+            };
+        }
+        self.ip = true;
+        if self.rs {
+            let restarted = restart(self.counter, self.reload, counts);
+            self.counter = restarted.value;
+            return Served {
+                underflows: restarted.ends,
+                pulses: self.pulses(restarted.ends),
+                timer: self,
+            };
+        }
+        self.counter = Self::AT_REST;
+        self.en = false;
         Served {
-            underflows: 0,
-            pulses: 0,
+            underflows: 1,
+            pulses: self.pulses(1),
             timer: self,
         }
     }
 
     // The count at which the timer underflows for the j-th time; u64::MAX where it does not, or not before then.
+    #[tactic(auto, unfolding(crate::specs::Gptimer::Direct::due, crate::specs::Gptimer::Direct::once_at))]
     fn due(self, j: u64) -> u64
         requires { 0 < j }
         ensures { result ≡ direct.due j self }
     {
-        if self.en {
-            if self.rs {
-                return ends_at(self.counter, self.reload, j);
-            }
-            if j == 1 {
-                return self.counter as u64 + 1;
-            }
+        if !self.en {
             return u64::MAX;
         }
-        u64::MAX
+        if self.rs {
+            return ends_at(self.counter, self.reload, j);
+        }
+        if j == 1 {
+            self.counter as u64 + 1
+        } else {
+            u64::MAX
+        }
     }
 
     // An underflow has a pulse where interrupts are enabled.
@@ -293,14 +263,6 @@ impl Timer {
     {
         if self.ie { underflows } else { 0 }
     }
-}
-
-// A bit of a register where it is set.
-fn flag(set: bool, bit: u32) -> u32
-    ensures is { result ≡ (if set then bit else 0) }
-    ensures within { result ≤ bit }
-{
-    if set { bit } else { 0 }
 }
 
 impl Gptimer {
@@ -332,101 +294,81 @@ impl Gptimer {
         }
     }
 
+    #[tactic(auto, unfolding(crate::specs::Gptimer::read))]
     pub fn read(self, offset: u32) -> Answer
-        ensures { result ≡ gpt.read offset self }
+        ensures { answer_of result ≡ gpt.read offset self }
     {
-        if offset == Self::SCALER {
-            return Answer::accepted(self.scaler as u32, self);
+        match offset {
+            Self::SCALER => Answer::accepted(self.scaler as u32, self),
+            Self::SRELOAD => Answer::accepted(self.sreload as u32, self),
+            Self::CONFIG => Answer::accepted(
+                Self::CONFIG_FIXED + u32::from(self.df) * Self::DF,
+                self,
+            ),
+            _ => match (offset / Self::STRIDE) as usize {
+                n @ 1..=4 => self.read_timer(n, offset % Self::STRIDE),
+                _ => Answer::refused(Refusal::NoRegister, self),
+            },
         }
-        if offset == Self::SRELOAD {
-            return Answer::accepted(self.sreload as u32, self);
-        }
-        if offset == Self::CONFIG {
-            return Answer::accepted(Self::CONFIG_FIXED + flag(self.df, Self::DF), self);
-        }
-        let n = (offset / Self::STRIDE) as usize;
-        if n < 1 {
-            return Answer::refused(refusal::NO_REGISTER, self);
-        }
-        if 4 < n {
-            return Answer::refused(refusal::NO_REGISTER, self);
-        }
-        self.read_timer(n, offset % Self::STRIDE)
     }
 
+    #[tactic(auto, unfolding(crate::specs::Gptimer::write))]
     pub fn write(mut self, offset: u32, value: u32) -> Answer
-        ensures { result ≡ gpt.write offset value self }
+        ensures { answer_of result ≡ gpt.write offset value self }
     {
-        if offset == Self::SCALER {
-            self.scaler = (value % 0x10000) as u16;
-            return Answer::accepted(0, self);
+        match offset {
+            Self::SCALER => self.scaler = (value % 0x10000) as u16,
+            Self::SRELOAD => self.sreload = (value % 0x10000) as u16,
+            Self::CONFIG => self.df = value / Self::DF % 2 == 1,
+            _ => {
+                return match (offset / Self::STRIDE) as usize {
+                    n @ 1..=4 => self.write_timer(n, offset % Self::STRIDE, value),
+                    _ => Answer::refused(Refusal::NoRegister, self),
+                };
+            }
         }
-        if offset == Self::SRELOAD {
-            self.sreload = (value % 0x10000) as u16;
-            return Answer::accepted(0, self);
-        }
-        if offset == Self::CONFIG {
-            self.df = value / Self::DF % 2 == 1;
-            return Answer::accepted(0, self);
-        }
-        let n = (offset / Self::STRIDE) as usize;
-        if n < 1 {
-            return Answer::refused(refusal::NO_REGISTER, self);
-        }
-        if 4 < n {
-            return Answer::refused(refusal::NO_REGISTER, self);
-        }
-        self.write_timer(n, offset % Self::STRIDE, value)
+        Answer::accepted(0, self)
     }
 
     // A register of timer n, by its offset from the timer's first, its counter.
     fn read_timer(self, n: usize, offset: u32) -> Answer
         requires { (0 < n) × (n ≤ 4) }
-        ensures { result ≡ gpt.read_timer n offset self }
+        ensures { answer_of result ≡ gpt.read_timer n offset self }
     {
-        if offset == Timer::COUNTER {
-            return Answer::accepted(self.timers[n - 1].counter, self);
+        let timer = self.timers[n - 1];
+        match offset {
+            Timer::COUNTER => Answer::accepted(timer.counter, self),
+            Timer::RELOAD => Answer::accepted(timer.reload, self),
+            Timer::CONTROL => Answer::accepted(timer.read_control(), self),
+            _ => Answer::refused(Refusal::NoRegister, self),
         }
-        if offset == Timer::RELOAD {
-            return Answer::accepted(self.timers[n - 1].reload, self);
-        }
-        if offset == Timer::CONTROL {
-            return Answer::accepted(self.timers[n - 1].read_control(), self);
-        }
-        Answer::refused(refusal::NO_REGISTER, self)
     }
 
     fn write_timer(mut self, n: usize, offset: u32, value: u32) -> Answer
         requires { (0 < n) × (n ≤ 4) }
-        ensures { result ≡ gpt.write_timer n offset value self }
+        ensures { answer_of result ≡ gpt.write_timer n offset value self }
     {
-        if offset == Timer::COUNTER {
-            self.timers[n - 1].counter = value;
-            return Answer::accepted(0, self);
+        match offset {
+            Timer::COUNTER => self.timers[n - 1].counter = value,
+            Timer::RELOAD => self.timers[n - 1].reload = value,
+            Timer::CONTROL => self.timers[n - 1] = self.timers[n - 1].write_control(value),
+            // Nothing is stored where there is no register.
+            _ => return Answer::refused(Refusal::NoRegister, self),
         }
-        if offset == Timer::RELOAD {
-            self.timers[n - 1].reload = value;
-            return Answer::accepted(0, self);
-        }
-        if offset == Timer::CONTROL {
-            let timer = self.timers[n - 1].write_control(value);
-            self.timers[n - 1] = timer;
-            return Answer::accepted(0, self);
-        }
-        // Nothing is stored where there is no register.
-        Answer::refused(refusal::NO_REGISTER, self)
+        Answer::accepted(0, self)
     }
 
     // Cycles pass.
+    #[tactic(auto, using(crate::proofs::gptimer::Spans::told))]
     pub fn advance(mut self, cycles: u64) -> Elapsed
         ensures { result ≡ gpt.advance cycles self }
     {
-        let BeforeTick::Yes { cycles, scaler } = self.before_tick(Span::Cycles(cycles)) else {
+        let Some(short) = self.before_tick(Span::Cycles(cycles)) else {
             return self.pass_tick(cycles);
         };
-        self.scaler = scaler;
+        self.scaler = short.scaler;
         Elapsed {
-            cycles,
+            cycles: short.cycles,
             pulses: [0; 4],
             unit: self,
         }
@@ -434,21 +376,23 @@ impl Gptimer {
 
     // Whether a span ends before the prescaler's next tick, by one comparison and one subtraction: no division, no look at the
     // timers.
-    pub fn before_tick(self, span: Span) -> BeforeTick
+    #[tactic(auto, using(crate::proofs::gptimer::Spans::tells))]
+    pub fn before_tick(self, span: Span) -> Option<Short>
         ensures { spans.Tells span self result }
     {
         let cycles = span.most();
         let scaler = self.scaler as u64;
         if cycles <= scaler {
-            return BeforeTick::Yes {
+            return Some(Short {
                 cycles,
                 scaler: (scaler - cycles) as u16,
-            };
+            });
         }
-        BeforeTick::No
+        None
     }
 
     // Cycles pass, and there is a tick in them.
+    #[tactic(auto, using(crate::proofs::gptimer::Spans::past))]
     fn pass_tick(mut self, cycles: u64) -> Elapsed
         requires { self.scaler < cycles }
         ensures { result ≡ gpt.advance cycles self }
@@ -459,6 +403,7 @@ impl Gptimer {
     }
 
     // The unit after some ticks, and the pulses in them; `cycles` is only passed on.
+
     fn tick(mut self, cycles: u64, ticks: u64) -> Elapsed
         ensures { result ≡ direct.ticked cycles ticks self }
     {
@@ -467,11 +412,7 @@ impl Gptimer {
         let second = self.timers[1].serve(ticks, first.underflows);
         let third = self.timers[2].serve(ticks, second.underflows);
         let fourth = self.timers[3].serve(ticks, third.underflows);
-        let timer1 = first.timer;
-        let timer2 = second.timer;
-        let timer3 = third.timer;
-        let timer4 = fourth.timer;
-        self.timers = [timer1, timer2, timer3, timer4];
+        self.timers = [first.timer, second.timer, third.timer, fourth.timer];
         Elapsed {
             cycles,
             pulses: [first.pulses, second.pulses, third.pulses, fourth.pulses],
@@ -494,17 +435,19 @@ impl Gptimer {
     }
 
     // The cycles that a span comes to.
+    #[tactic(auto, using(crate::proofs::gptimer::Spans::comes_to))]
     fn cycles_in(self, span: Span) -> u64
         ensures { gpt.advance result self ≡ spans.pass span self }
     {
         match span {
             Span::Cycles(cycles) => cycles,
-            Span::ToPulse(limit) => earlier(self.next_pulse(), limit),
+            Span::ToPulse(limit) => self.next_pulse().min(limit),
         }
     }
 
-    // The cycle of the next pulse. Times count from 1; here and below u64::MAX stands for one that never comes, or not
-    // before then.
+    // The cycle of the next pulse. Times count from 1; here and below u64::MAX stands for one that never comes, or not before then.
+    // (No Option: the laws of these functions speak of that number, which is also the longest limit, and of minima.)
+    #[tactic(auto, using(crate::proofs::gptimer::Spans::pulses_at))]
     fn next_pulse(self) -> u64
         ensures { result ≡ direct.tick_cycle self (direct.first_tick self.timers) }
     {
@@ -515,10 +458,9 @@ impl Gptimer {
     fn first_tick(self) -> u64
         ensures { result ≡ direct.first_tick self.timers }
     {
-        earlier(
-            earlier(self.pulse_tick(0), self.pulse_tick(1)),
-            earlier(self.pulse_tick(2), self.pulse_tick(3)),
-        )
+        let first = self.pulse_tick(0).min(self.pulse_tick(1));
+        let second = self.pulse_tick(2).min(self.pulse_tick(3));
+        first.min(second)
     }
 
     // The tick of the first pulse of the timer at a place: timer n stands at place n - 1.
@@ -527,9 +469,10 @@ impl Gptimer {
         ensures { result ≡ direct.pulse_tick self.timers place }
     {
         if self.timers[place].ie {
-            return self.due_tick(place + 1, 1);
+            self.due_tick(place + 1, 1)
+        } else {
+            u64::MAX
         }
-        u64::MAX
     }
 
     // The tick at which timer n underflows for the j-th time.
@@ -537,11 +480,9 @@ impl Gptimer {
         requires { (n ≤ 4) × (0 < j) }
         ensures { result ≡ direct.due_tick self.timers n j }
     {
-        let mut at = n;
         let mut due = j;
-        while 0 < at {
-            at -= 1;
-            let timer = self.timers[at];
+        for place in (0..n).rev() {
+            let timer = self.timers[place];
             due = timer.due(due);
             if !timer.ch {
                 return due;
@@ -553,6 +494,7 @@ impl Gptimer {
 
 // The prescaler, and a timer with RS, is a countdown that stands at `value` and starts again from `reload`: it ends at the count
 // that finds it at 0, its (value + 1)-th, and then at every (reload + 1)-th. What it comes to in more counts than `value`:
+#[tactic(auto, using(crate::proofs::gptimer::Countdown::restarts))]
 fn restart(value: u32, reload: u32, counts: u64) -> Restarted
     requires { value < counts }
     ensures ends { result.ends ≡ suc (direct.periods value reload counts) }
@@ -562,11 +504,12 @@ fn restart(value: u32, reload: u32, counts: u64) -> Restarted
     let period = reload as u64 + 1;
     Restarted {
         ends: 1 + past / period,
-        value: std::num::wrapping_sub_u32(reload, (past % period) as u32),
+        value: reload.wrapping_sub((past % period) as u32),
     }
 }
 
 // The count at which such a countdown ends for the j-th time, u64::MAX where that is beyond 64 bits.
+#[tactic(auto, using(crate::proofs::gptimer::Countdown::ends))]
 fn ends_at(value: u32, reload: u32, j: u64) -> u64
     requires { 0 < j }
     ensures { result ≡ direct.ends_at value reload j }
@@ -582,10 +525,4 @@ fn ends_at(value: u32, reload: u32, j: u64) -> u64
         return u64::MAX;
     }
     first + again * period
-}
-
-fn earlier(a: u64, b: u64) -> u64
-    ensures { result ≡ min a b }
-{
-    if a < b { a } else { b }
 }

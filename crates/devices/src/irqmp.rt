@@ -1,15 +1,18 @@
 // The interrupt controller, GRLIB's IRQMP for one processor, as a state by value: which lines are pending, and which of them the
 // processor takes. A word of lines has one bit a line. Each public call answers what `specs/Irqmp.antt` defines, on every
 // controller and every argument.
-ghost use Rattle.std.specs.Prelude.{◌≡◌, ◌^◌, ◌<◌};
+ghost use Rattle.std.specs.Prelude.{◌≡◌, option_map};
 ghost use Rattle.devices.specs.Word as words;
-ghost use Rattle.devices.specs.Word.{bit};
+ghost use Rattle.devices.specs.Answer.View.{answer_of};
 ghost use Rattle.devices.specs.Irqmp as irq;
 ghost use Rattle.devices.specs.Irqmp.Words as lines;
+ghost use Rattle.devices.specs.Irqmp.Words.{number_or_0};
 
-use crate::refusal;
+use crate::answer;
+use crate::line::Line;
+use crate::refusal::Refusal;
 
-#[derive(Clone, Copy)]
+#[derive(Clone, Copy, Debug, PartialEq, Eq)]
 pub struct Irqmp {
     // The lines that go first.
     pub level: u32,
@@ -23,37 +26,7 @@ pub struct Irqmp {
 }
 
 // What a call on a controller answers.
-#[derive(Clone, Copy)]
-pub struct Answer {
-    // The refusal number; refusal::NOT_REFUSED where the call was not refused.
-    pub refusal: u8,
-    // The value read, or the line taken.
-    pub value: u32,
-    // The controller after the call.
-    pub controller: Irqmp,
-}
-
-impl Answer {
-    fn refused(refusal: u8, controller: Irqmp) -> Self
-        ensures { result ≡ irq.refused refusal controller }
-    {
-        Answer {
-            refusal,
-            value: 0,
-            controller,
-        }
-    }
-
-    fn accepted(value: u32, controller: Irqmp) -> Self
-        ensures { result ≡ irq.accepted value controller }
-    {
-        Answer {
-            refusal: refusal::NOT_REFUSED,
-            value,
-            controller,
-        }
-    }
-}
+pub type Answer = answer::Answer<Irqmp>;
 
 impl Irqmp {
     // Register offsets.
@@ -91,136 +64,112 @@ impl Irqmp {
         }
     }
 
+    #[tactic(auto, unfolding(crate::specs::Irqmp::well_formed))]
     pub fn well_formed(self) -> bool
         ensures { result ≡ irq.well_formed self }
     {
-        if !within(Self::LINES_1_TO_15, self.level) {
-            return false;
-        }
-        if !within(Self::LINES_1_TO_31, self.pending) {
-            return false;
-        }
-        if !within(Self::LINES_1_TO_15, self.force) {
-            return false;
-        }
-        if !within(Self::LINES_1_TO_31, self.mask) {
-            return false;
-        }
-        may_be_noted(self.extended)
+        within(Self::LINES_1_TO_15, self.level)
+            && within(Self::LINES_1_TO_31, self.pending)
+            && within(Self::LINES_1_TO_15, self.force)
+            && within(Self::LINES_1_TO_31, self.mask)
+            && may_be_noted(self.extended)
     }
 
-    // The reset call; an ill-formed controller is refused it like any other.
+    // The reset call; an ill-formed controller is refused it like any other. (Each call asks for itself, as a port's do.)
+    #[tactic(auto, unfolding(crate::specs::Irqmp::reset))]
     pub fn reset(self) -> Answer
-        ensures { result ≡ irq.reset self }
+        ensures { answer_of result ≡ irq.reset self }
     {
         if self.well_formed() {
             Answer::accepted(0, Self::reset_state())
         } else {
-            Answer::refused(refusal::ILL_FORMED, self)
+            Answer::refused(Refusal::IllFormed, self)
         }
     }
 
+    #[tactic(auto, unfolding(crate::specs::Irqmp::read))]
     pub fn read(self, offset: u32) -> Answer
-        ensures { result ≡ irq.read offset self }
+        ensures { answer_of result ≡ irq.read offset self }
     {
         if self.well_formed() {
             self.read_register(offset)
         } else {
-            Answer::refused(refusal::ILL_FORMED, self)
+            Answer::refused(Refusal::IllFormed, self)
         }
     }
 
+    #[tactic(auto, unfolding(crate::specs::Irqmp::write))]
     pub fn write(self, offset: u32, value: u32) -> Answer
-        ensures { result ≡ irq.write offset value self }
+        ensures { answer_of result ≡ irq.write offset value self }
     {
         if self.well_formed() {
             self.write_register(offset, value)
         } else {
-            Answer::refused(refusal::ILL_FORMED, self)
+            Answer::refused(Refusal::IllFormed, self)
         }
     }
 
     // Lines become pending, whatever the mask.
+    #[tactic(auto, unfolding(crate::specs::Irqmp::set_pending))]
     pub fn set_pending(self, lines: u32) -> Answer
-        ensures { result ≡ irq.set_pending lines self }
+        ensures { answer_of result ≡ irq.set_pending lines self }
     {
         if self.well_formed() {
             Answer::accepted(0, self.with_lines(lines))
         } else {
-            Answer::refused(refusal::ILL_FORMED, self)
+            Answer::refused(Refusal::IllFormed, self)
         }
     }
 
     // The processor takes a line, if one waits.
+    #[tactic(auto, unfolding(crate::specs::Irqmp::acknowledge))]
     pub fn acknowledge(self) -> Answer
-        ensures { result ≡ irq.acknowledge self }
+        ensures { answer_of result ≡ irq.acknowledge self }
     {
         if self.well_formed() {
-            let n = self.line_taken();
-            Answer::accepted(n, self.taken(n))
+            match self.line_taken() {
+                None => Answer::accepted(0, self),
+                Some(line) => Answer::accepted(line.number, self.taken(line)),
+            }
         } else {
-            Answer::refused(refusal::ILL_FORMED, self)
+            Answer::refused(Refusal::IllFormed, self)
         }
     }
 
     fn read_register(self, offset: u32) -> Answer
-        ensures { result ≡ irq.read_register offset self }
+        ensures { answer_of result ≡ irq.read_register offset self }
     {
-        if offset == Self::LEVEL {
-            return Answer::accepted(self.level, self);
+        match offset {
+            Self::LEVEL => Answer::accepted(self.level, self),
+            Self::PENDING => Answer::accepted(self.pending, self),
+            Self::FORCE => Answer::accepted(self.force, self),
+            Self::CLEAR => Answer::accepted(0, self),
+            Self::MASK => Answer::accepted(self.mask, self),
+            Self::EXTENDED => Answer::accepted(self.extended, self),
+            _ => Answer::refused(Refusal::NoRegister, self),
         }
-        if offset == Self::PENDING {
-            return Answer::accepted(self.pending, self);
-        }
-        if offset == Self::FORCE {
-            return Answer::accepted(self.force, self);
-        }
-        if offset == Self::CLEAR {
-            return Answer::accepted(0, self);
-        }
-        if offset == Self::MASK {
-            return Answer::accepted(self.mask, self);
-        }
-        if offset == Self::EXTENDED {
-            return Answer::accepted(self.extended, self);
-        }
-        Answer::refused(refusal::NO_REGISTER, self)
     }
 
+    // Nothing is stored where there is no register.
     fn write_register(mut self, offset: u32, value: u32) -> Answer
-        ensures { result ≡ irq.write_register offset value self }
+        ensures { answer_of result ≡ irq.write_register offset value self }
     {
-        if offset == Self::LEVEL {
-            self.level = value & Self::LINES_1_TO_15;
-            return Answer::accepted(0, self);
+        match offset {
+            Self::LEVEL => self.level = value & Self::LINES_1_TO_15,
+            Self::PENDING => self.pending = value & Self::LINES_1_TO_31,
+            Self::FORCE => self.force = value & Self::LINES_1_TO_15,
+            Self::CLEAR => self.pending = without(value, self.pending),
+            Self::MASK => self.mask = value & Self::LINES_1_TO_31,
+            Self::EXTENDED => {}
+            _ => return Answer::refused(Refusal::NoRegister, self),
         }
-        if offset == Self::PENDING {
-            self.pending = value & Self::LINES_1_TO_31;
-            return Answer::accepted(0, self);
-        }
-        if offset == Self::FORCE {
-            self.force = value & Self::LINES_1_TO_15;
-            return Answer::accepted(0, self);
-        }
-        if offset == Self::CLEAR {
-            self.pending = without(value, self.pending);
-            return Answer::accepted(0, self);
-        }
-        if offset == Self::MASK {
-            self.mask = value & Self::LINES_1_TO_31;
-            return Answer::accepted(0, self);
-        }
-        if offset == Self::EXTENDED {
-            return Answer::accepted(0, self);
-        }
-        // Nothing is stored where there is no register.
-        Answer::refused(refusal::NO_REGISTER, self)
+        Answer::accepted(0, self)
     }
 
     fn with_lines(mut self, lines: u32) -> Self
         ensures { result ≡ irq.with_lines lines self }
     {
-        self.pending = self.pending | (lines & Self::LINES_1_TO_31);
+        self.pending |= lines & Self::LINES_1_TO_31;
         self
     }
 
@@ -231,11 +180,11 @@ impl Irqmp {
         (self.pending | self.force) & self.mask
     }
 
-    // The highest extended line that waits; 0 if none does.
-    fn extended_line(self) -> u32
-        ensures { (result ≡ irq.extended_line self) × (result < 32) }
+    // The highest extended line that waits, if one does.
+    fn extended_line(self) -> Option<Line>
+        ensures { number_or_0 (option_map (λ line. line.number) result) ≡ irq.extended_line self }
     {
-        highest(self.waiting() & Self::EXTENDED_LINES)
+        Line::highest(self.waiting() & Self::EXTENDED_LINES)
     }
 
     // The lines 1 to 15 that reach the processor.
@@ -243,51 +192,50 @@ impl Irqmp {
         ensures { result ≡ lines.reaching self }
     {
         let own = self.waiting() & Self::LINES_1_TO_15;
-        if self.extended_line() == 0 {
-            own
-        } else {
-            own | line(Self::EXTENDED_AS)
+        match self.extended_line() {
+            None => own,
+            Some(_) => own | 1 << Self::EXTENDED_AS,
         }
     }
 
-    fn line_taken(self) -> u32
-        ensures { (result ≡ irq.line_taken self) × (result < 32) }
+    fn line_taken(self) -> Option<Line>
+        ensures { number_or_0 (option_map (λ line. line.number) result) ≡ irq.line_taken self }
     {
         let reaching = self.reaching();
-        or_else(highest(reaching & self.level), highest(reaching))
+        Line::highest(reaching & self.level).or(Line::highest(reaching))
     }
 
-    fn taken(self, n: u32) -> Self
-        requires { n < 32 }
-        ensures { result ≡ irq.taken n self }
+    fn taken(self, line: Line) -> Self
+        ensures { result ≡ irq.taken line.number self }
     {
-        if n == 0 {
-            return self;
-        }
-        if n == Self::EXTENDED_AS {
-            return self.take_12();
-        }
-        self.take(n)
-    }
-
-    fn take(mut self, n: u32) -> Self
-        requires { n < 32 }
-        ensures { result ≡ irq.take n self }
-    {
-        if has(n, self.force) {
-            self.force = without(line(n), self.force);
+        if line.number == Self::EXTENDED_AS {
+            self.take_12()
         } else {
-            self.pending = without(line(n), self.pending);
+            self.take(line)
+        }
+    }
+
+    fn take(mut self, line: Line) -> Self
+        ensures { result ≡ irq.take line.number self }
+    {
+        if line.is_in(self.force) {
+            self.force = without(line.word(), self.force);
+        } else {
+            self.pending = without(line.word(), self.pending);
         }
         self
     }
 
+    // Line 12 stands for the highest extended line that waits, if one does.
     fn take_12(self) -> Self
         ensures { result ≡ irq.take12 self }
     {
+        let twelve = Line {
+            number: Self::EXTENDED_AS,
+        };
         let extended = self.extended_line();
-        let mut controller = self.take(or_else(extended, Self::EXTENDED_AS));
-        controller.extended = extended;
+        let mut controller = self.take(extended.unwrap_or(twelve));
+        controller.extended = extended.map_or(0, |line| line.number);
         controller
     }
 }
@@ -303,26 +251,7 @@ fn within(lines: u32, word: u32) -> bool
 fn may_be_noted(n: u32) -> bool
     ensures { result ≡ irq.may_be_noted n }
 {
-    if n == 0 {
-        return true;
-    }
-    if 16 <= n { n <= 31 } else { false }
-}
-
-// Whether line n is in a word.
-fn has(n: u32, word: u32) -> bool
-    requires { n < 32 }
-    ensures { result ≡ bit n word }
-{
-    (word >> n) % 2 == 1
-}
-
-// The word of line n alone.
-fn line(n: u32) -> u32
-    requires { n < 32 }
-    ensures { result ≡ 2 ^ n }
-{
-    1 << n
+    matches!(n, 0 | 16..=31)
 }
 
 // A word without the lines of another.
@@ -330,23 +259,4 @@ fn without(lines: u32, word: u32) -> u32
     ensures { result ≡ words.without lines word }
 {
     word & !lines
-}
-
-// The highest line of a word; 0 if it has none.
-fn highest(word: u32) -> u32
-    ensures { (result ≡ lines.highest_in word) × (result < 32) }
-{
-    if word == 0 {
-        0
-    } else {
-        31 - u32::leading_zeros(word)
-    }
-}
-
-// The first of two lines, or the second where the first is 0.
-fn or_else(first: u32, second: u32) -> u32
-    requires { (first < 32) × (second < 32) }
-    ensures { (result ≡ irq.or_else first second) × (result < 32) }
-{
-    if first == 0 { second } else { first }
 }

@@ -1,12 +1,24 @@
-// The refusal numbers that a device's own call can answer with.
+// Why a device refuses a call of its own.
+ghost use Rattle.std.specs.Prelude.{◌≡◌};
+ghost use Rattle.devices.specs.Refusal.{number_of};
 
-// The call is not refused.
-pub const NOT_REFUSED: u8 = 0;
-// A byte was offered to a port whose RE is 0.
-pub const RECEIVER_OFF: u8 = 7;
-// A byte was offered to a port whose receive queue is full.
-pub const QUEUE_FULL: u8 = 8;
-// The state is ill formed.
-pub const ILL_FORMED: u8 = 9;
-// An access names an offset that has no register.
-pub const NO_REGISTER: u8 = 13;
+// Each with the number that the table of refusals gives it; 0 stands for a call that is not refused.
+#[derive(Clone, Copy, Debug, PartialEq, Eq)]
+pub enum Refusal {
+    // A byte was offered to a port whose RE is 0.
+    ReceiverOff = 7,
+    // A byte was offered to a port whose receive queue is full.
+    QueueFull = 8,
+    // The state is ill formed.
+    IllFormed = 9,
+    // An access names an offset that has no register.
+    NoRegister = 13,
+}
+
+impl Refusal {
+    pub fn number(self) -> u8
+        ensures { result ≡ number_of self }
+    {
+        self as u8
+    }
+}

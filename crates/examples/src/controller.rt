@@ -1,69 +1,64 @@
 // An interrupt controller's calls. Each is written with its answer and the five registers after it.
 use crate::line::{Line, word};
-use crate::text::{fill, name};
+use crate::text::{say, unknown};
 use devices::irqmp::{Answer, Irqmp};
 
-pub(crate) fn play(rt: &impl Print, controller: Irqmp, line: Line) -> Irqmp {
-    name(
-        rt,
-        b"r  read $;\
-          w  write $ #;\
-          p  set pending #;\
-          k  acknowledge;\
-          x  reset;\
-          l  level is #\n;\
-          e  extended acknowledge is %\n;",
-        line,
-    );
-    call(rt, controller, line)
-}
-
-fn call(rt: &impl Print, controller: Irqmp, line: Line) -> Irqmp {
-    let letter = line.letter;
-    let answer = match letter {
-        b'r' => controller.read(word(line.first)),
-        b'w' => controller.write(word(line.first), word(line.second)),
-        b'p' => controller.set_pending(word(line.first)),
-        b'k' => controller.acknowledge(),
-        b'x' => controller.reset(),
-        b'l' => return with_level(controller, word(line.first)),
-        b'e' => return with_extended(controller, word(line.first)),
-        _ => return controller,
+pub(crate) fn play(rt: &impl Print, controller: &mut Irqmp, line: Line) {
+    let [first, second, _] = line.numbers;
+    let answer = match line.letter {
+        b'r' => {
+            say(rt, format_args!("  read {first:02x}"));
+            controller.read(word(first))
+        }
+        b'w' => {
+            say(rt, format_args!("  write {first:02x} {second:08x}"));
+            controller.write(word(first), word(second))
+        }
+        b'p' => {
+            say(rt, format_args!("  set pending {first:08x}"));
+            controller.set_pending(word(first))
+        }
+        b'k' => {
+            say(rt, "  acknowledge");
+            controller.acknowledge()
+        }
+        b'x' => {
+            say(rt, "  reset");
+            controller.reset()
+        }
+        b'l' => {
+            say(rt, format_args!("  level is {first:08x}\n"));
+            controller.level = word(first);
+            return;
+        }
+        b'e' => {
+            say(rt, format_args!("  extended acknowledge is {first}\n"));
+            controller.extended = word(first);
+            return;
+        }
+        _ => return unknown(rt),
     };
-    answered(rt, answer)
-}
-
-fn with_level(mut controller: Irqmp, word: u32) -> Irqmp {
-    controller.level = word;
-    controller
-}
-
-fn with_extended(mut controller: Irqmp, word: u32) -> Irqmp {
-    controller.extended = word;
-    controller
+    *controller = answered(rt, answer);
 }
 
 // Writes the answer and hands on the controller.
 fn answered(rt: &impl Print, answer: Answer) -> Irqmp {
-    fill(
+    let refusal = answer.number();
+    let value = answer.value();
+    let controller = answer.device;
+    say(rt, format_args!(": refusal {refusal}, value {value}; "));
+    let Irqmp {
+        level,
+        pending,
+        force,
+        mask,
+        extended,
+    } = controller;
+    say(
         rt,
-        b": refusal %, value %",
-        [answer.refusal as u64, answer.value as u64, 0, 0],
+        format_args!(
+            "level {level:08x}, pending {pending:08x}, force {force:08x}, mask {mask:08x}, extended {extended}\n"
+        ),
     );
-    shown(rt, answer.controller)
-}
-
-fn shown(rt: &impl Print, controller: Irqmp) -> Irqmp {
-    fill(
-        rt,
-        b"; level #, pending #, force #, mask #",
-        [
-            controller.level as u64,
-            controller.pending as u64,
-            controller.force as u64,
-            controller.mask as u64,
-        ],
-    );
-    fill(rt, b", extended %\n", [controller.extended as u64, 0, 0, 0]);
     controller
 }

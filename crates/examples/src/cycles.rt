@@ -1,7 +1,7 @@
 // Holds advances and skips of the timer unit against single cycles of it: on many units, and after each of some cycles,
 // `advance` and `skip` from the start must answer what as many advances of one cycle come to. It writes how many units were
 // compared and how many answers differed.
-use crate::text::fill;
+use crate::text::say;
 use devices::gptimer::{Elapsed, Gptimer, Timer};
 
 // The sets of units. SMALL has every setting of flags: each pair of settings of timers 1 and 2 occurs 60 times, with the
@@ -29,151 +29,84 @@ struct Slow {
 }
 
 pub(crate) fn compare(rt: &impl Print) {
+    let differences = compare_set(SMALL, small, 1, SMALL_CYCLES);
     say(
         rt,
-        b"  small machines %",
-        SMALL,
-        compare_set(SMALL, 1, SMALL_CYCLES),
+        format_args!("  small machines {SMALL}, differences {differences}\n"),
     );
+    let differences = compare_set(CHAINS, chain, 1, CHAINS_CYCLES);
     say(
         rt,
-        b"  chains %",
-        CHAINS,
-        compare_set(CHAINS, 1, CHAINS_CYCLES),
+        format_args!("  chains {CHAINS}, differences {differences}\n"),
     );
+    let differences = compare_set(FAR, far, FAR_CYCLES, FAR_CYCLES);
     say(
         rt,
-        b"  long spans %",
-        FAR,
-        compare_set(FAR, FAR_CYCLES, FAR_CYCLES),
+        format_args!("  long spans {FAR}, differences {differences}\n"),
     );
 }
 
-fn say(rt: &impl Print, what: &[u8], units: u32, differences: u64) {
-    fill(rt, what, [units as u64, 0, 0, 0]);
-    fill(rt, b", differences %\n", [differences, 0, 0, 0]);
-}
-
-// Compares the units of a set at each cycle from `from` to `to`. How many answers differed.
-fn compare_set(set: u32, from: u32, to: u32) -> u64 {
-    let mut differences = 0;
-    let mut i = set;
-    while 0 < i {
-        i -= 1;
-        differences = plus(differences, compare_unit(unit(set, i), from, to));
+// Compares the first `units` units of a set at each cycle from `from` to `to`. How many answers differed.
+fn compare_set<F: Fn(u32) -> Gptimer>(units: u32, unit: F, from: u32, to: u32) -> u64
+    requires { F.IsAlwaysCallable unit }
+{
+    let mut differences: u64 = 0;
+    for i in 0..units {
+        differences = differences.wrapping_add(compare_unit(unit(i), from, to));
     }
     differences
 }
 
 fn compare_unit(start: Gptimer, from: u32, to: u32) -> u64 {
-    let mut differences = 0;
-    let mut slow = still(start);
-    let mut passed = 0;
-    while passed < to {
-        passed += 1;
-        slow = next(slow);
+    let mut differences: u64 = 0;
+    let mut slow = Slow::still(start);
+    for passed in 1..=to {
+        slow = slow.next();
         if from <= passed {
-            differences = plus(differences, differing(start, slow, passed as u64));
+            differences = differences.wrapping_add(slow.differing(start, passed as u64));
         }
     }
     differences
 }
 
-// How many of the two calls differ from the slow run.
-fn differing(start: Gptimer, slow: Slow, passed: u64) -> u64 {
-    plus(
-        unlike(start.advance(passed), slow.advance),
-        unlike(start.skip(passed), slow.skip),
-    )
-}
-
-// 1 where the answers differ, else 0.
-fn unlike(a: Elapsed, b: Elapsed) -> u64 {
-    if same_counts(a, b) && same_registers(a.unit, b.unit) {
-        0
-    } else {
-        1
-    }
-}
-
-fn same_counts(a: Elapsed, b: Elapsed) -> bool {
-    (a.cycles == b.cycles)
-        & (a.pulses[0] == b.pulses[0])
-        & (a.pulses[1] == b.pulses[1])
-        & (a.pulses[2] == b.pulses[2])
-        & (a.pulses[3] == b.pulses[3])
-}
-
-// Whether two units are equal: every word of their registers reads alike.
-fn same_registers(a: Gptimer, b: Gptimer) -> bool {
-    let mut offset = 0;
-    while offset < 0x50 {
-        if a.read(offset).value != b.read(offset).value {
-            return false;
+impl Slow {
+    fn still(unit: Gptimer) -> Self {
+        let none = Elapsed {
+            cycles: 0,
+            pulses: [0; 4],
+            unit,
+        };
+        Slow {
+            advance: none,
+            skip: none,
         }
-        offset += 4;
     }
-    true
-}
 
-fn still(unit: Gptimer) -> Slow {
-    let none = Elapsed {
-        cycles: 0,
-        pulses: [0; 4],
-        unit,
-    };
-    Slow {
-        advance: none,
-        skip: none,
+    // One cycle more. The skip stays where it had a pulse.
+    fn next(self) -> Self {
+        let has_pulsed = self.skip.pulses != [0; 4];
+        Slow {
+            advance: cycle(self.advance),
+            skip: if has_pulsed {
+                self.skip
+            } else {
+                cycle(self.skip)
+            },
+        }
     }
-}
 
-// One cycle more. The skip stays where it had a pulse.
-fn next(slow: Slow) -> Slow {
-    let advance = cycle(slow.advance);
-    if pulsed(slow.skip) {
-        let skip = slow.skip;
-        return Slow { advance, skip };
+    // How many of the two calls differ from the slow run.
+    fn differing(self, start: Gptimer, passed: u64) -> u64 {
+        (start.advance(passed) != self.advance) as u64 + (start.skip(passed) != self.skip) as u64
     }
-    let skip = cycle(slow.skip);
-    Slow { advance, skip }
 }
 
 fn cycle(before: Elapsed) -> Elapsed {
     let one = before.unit.advance(1);
-    let unit = one.unit;
-    let pulses = before.pulses;
-    let more = one.pulses;
     Elapsed {
-        cycles: plus(before.cycles, 1),
-        pulses: sums(pulses, more),
-        unit,
-    }
-}
-
-fn pulsed(span: Elapsed) -> bool {
-    0 < span.pulses[0] | span.pulses[1] | span.pulses[2] | span.pulses[3]
-}
-
-fn sums(a: [u64; 4], b: [u64; 4]) -> [u64; 4] {
-    [
-        plus(a[0], b[0]),
-        plus(a[1], b[1]),
-        plus(a[2], b[2]),
-        plus(a[3], b[3]),
-    ]
-}
-
-fn plus(a: u64, b: u64) -> u64 {
-    a.wrapping_add(b)
-}
-
-// The i-th unit of a set.
-fn unit(set: u32, i: u32) -> Gptimer {
-    match set {
-        CHAINS => chain(i),
-        FAR => far(i % FAR * FAR_STRIDE),
-        _ => small(i),
+        cycles: before.cycles.wrapping_add(1),
+        pulses: std::array::from_fn(|i| before.pulses[i].wrapping_add(one.pulses[i])),
+        unit: one.unit,
     }
 }
 
@@ -192,7 +125,7 @@ fn small(i: u32) -> Gptimer {
 }
 
 fn far(i: u32) -> Gptimer {
-    let mut unit = small(i);
+    let mut unit = small(i % FAR * FAR_STRIDE);
     unit.sreload = 0xFFFF;
     unit
 }

@@ -1,80 +1,87 @@
 // A machine's calls. Each is written with its whole answer.
 use crate::line::{Line, byte, word};
-use crate::text::{fill, name};
+use crate::text::{say, unknown};
 use bus::machine::{Answer, Machine};
 
-pub(crate) fn play(rt: &impl Print, machine: Machine, line: Line) -> Machine {
-    name(
-        rt,
-        b"r  read % at #;\
-          w  write % at # #;\
-          o  offer % $;\
-          a  advance %;\
-          s  skip %;\
-          x  reset;\
-          k  acknowledge;\
-          m  malformed;\
-          c  CONTROL of port % is #\n;\
-          l  the controller's level is #\n;",
-        line,
-    );
-    call(rt, machine, line)
-}
-
-fn call(rt: &impl Print, machine: Machine, line: Line) -> Machine {
-    let letter = line.letter;
-    let answer = match letter {
-        b'r' => machine.read(word(line.second), byte(line.first)),
-        b'w' => machine.write(word(line.second), byte(line.first), word(line.third)),
-        b'o' => machine.offer(byte(line.first), byte(line.second)),
-        b'a' => machine.advance(line.first),
-        b's' => machine.skip(line.first),
-        b'x' => machine.reset(),
-        b'k' => machine.acknowledge(),
-        b'm' => machine.malformed(),
-        b'c' => return with_control(machine, byte(line.first), word(line.second)),
-        b'l' => return with_level(machine, word(line.first)),
-        _ => return machine,
+pub(crate) fn play(rt: &impl Print, machine: &mut Machine, line: Line) {
+    let [first, second, third] = line.numbers;
+    let answer = match line.letter {
+        b'r' => {
+            say(rt, format_args!("  read {first} at {second:08x}"));
+            machine.read(word(second), byte(first))
+        }
+        b'w' => {
+            say(
+                rt,
+                format_args!("  write {first} at {second:08x} {third:08x}"),
+            );
+            machine.write(word(second), byte(first), word(third))
+        }
+        b'o' => {
+            say(rt, format_args!("  offer {first} {second:02x}"));
+            machine.offer(byte(first), byte(second))
+        }
+        b'a' => {
+            say(rt, format_args!("  advance {first}"));
+            machine.advance(first)
+        }
+        b's' => {
+            say(rt, format_args!("  skip {first}"));
+            machine.skip(first)
+        }
+        b'x' => {
+            say(rt, "  reset");
+            machine.reset()
+        }
+        b'k' => {
+            say(rt, "  acknowledge");
+            machine.acknowledge()
+        }
+        b'm' => {
+            say(rt, "  malformed");
+            machine.malformed()
+        }
+        b'c' => {
+            say(
+                rt,
+                format_args!("  CONTROL of port {first} is {second:08x}\n"),
+            );
+            if let Some(port) = machine.ports.get_mut(byte(first) as usize) {
+                port.control = word(second);
+            }
+            return;
+        }
+        b'l' => {
+            say(
+                rt,
+                format_args!("  the controller's level is {first:08x}\n"),
+            );
+            machine.irqmp.level = word(first);
+            return;
+        }
+        _ => return unknown(rt),
     };
-    answered(rt, answer)
-}
-
-fn with_control(mut machine: Machine, port: u8, word: u32) -> Machine {
-    let i = port as usize;
-    if i < Machine::PORTS {
-        machine.ports[i].control = word;
-    }
-    machine
-}
-
-fn with_level(mut machine: Machine, word: u32) -> Machine {
-    machine.irqmp.level = word;
-    machine
+    *machine = answered(rt, answer);
 }
 
 // Writes the answer and hands on the machine.
 fn answered(rt: &impl Print, answer: Answer) -> Machine {
-    outcome(
+    let Answer {
+        refusal,
+        emitted,
+        levels,
+        value,
+        cycles,
+        pulses: [one, two, three, four],
+        machine,
+    } = answer;
+    let byte = emitted.unwrap_or(0);
+    let emitted = emitted.is_some() as u8;
+    say(
         rt,
-        answer.refusal,
-        answer.emitted,
-        answer.byte,
-        answer.levels,
+        format_args!(": number {refusal}, emitted {emitted} {byte:02x}, levels {levels:02x}"),
     );
-    fill(
-        rt,
-        b", value #, cycles %",
-        [answer.value as u64, answer.cycles, 0, 0],
-    );
-    let pulses = answer.pulses;
-    fill(rt, b", pulses % % % %\n", pulses);
-    answer.machine
-}
-
-fn outcome(rt: &impl Print, refusal: u8, emitted: bool, byte: u8, levels: u8) {
-    fill(
-        rt,
-        b": number %, emitted % $, levels $",
-        [refusal as u64, emitted as u64, byte as u64, levels as u64],
-    );
+    say(rt, format_args!(", value {value:08x}, cycles {cycles}"));
+    say(rt, format_args!(", pulses {one} {two} {three} {four}\n"));
+    machine
 }

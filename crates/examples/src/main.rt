@@ -27,24 +27,23 @@ mod port;
 mod text;
 mod unit;
 
-ghost use Rattle.std.specs.Prelude.{◌≤◌, length};
-
 use bus::machine::Machine;
 use devices::apbuart::Apbuart;
 use devices::gptimer::Gptimer;
 use devices::irqmp::Irqmp;
-use line::{Line, next};
-use std::io::Read;
-use text::{say, unknown};
+use line::Line;
+use stream::read_full;
+use text::{say, say_bytes, unknown};
 
-// What the calls are made on: the letter of the part says which of the four.
-#[derive(Drop)]
-struct Bench {
-    part: u8,
-    port: Apbuart,
-    unit: Gptimer,
-    controller: Irqmp,
-    machine: Machine,
+// What the calls are made on.
+#[derive(Clone, Copy)]
+enum Bench {
+    // Before the first part, and in a comparison.
+    Empty,
+    Port(Apbuart),
+    Unit(Gptimer),
+    Controller(Irqmp),
+    Machine(Machine),
 }
 
 fn main(rt: HostRuntime) {
@@ -53,68 +52,49 @@ fn main(rt: HostRuntime) {
     play(&rt, &input[..count]);
 }
 
-// Reads until the buffer is full, the input ends or a read fails. How many bytes it put at the buffer's start.
-fn read_full(input: &mut impl Read, buffer: &mut [u8]) -> usize
-    ensures { result ≤ length buffer.new }
-{
-    let mut count = 0;
-    while count < buffer.len() {
-        match input.read(&mut buffer[count..]) {
-            Ok(0) | Err(_) => break,
-            Ok(more) => count += more,
+fn play(rt: &impl Print, text: &[u8]) {
+    let mut bench = Bench::Empty;
+    for line in text.split(|byte| *byte == b'\n') {
+        bench.play(rt, line);
+    }
+}
+
+impl Bench {
+    // What the calls of a part are made on, if the letter begins one.
+    fn of_part(letter: u8) -> Option<Self> {
+        match letter {
+            b'P' => Some(Bench::Port(Apbuart::reset_state())),
+            b'U' => Some(Bench::Unit(Gptimer::reset_state())),
+            b'I' => Some(Bench::Controller(Irqmp::reset_state())),
+            b'M' => Some(Bench::Machine(Machine::reset_state())),
+            b'C' => Some(Bench::Empty),
+            _ => None,
         }
     }
-    count
-}
 
-fn play(rt: &impl Print, text: &[u8]) {
-    let mut bench = at_reset(0);
-    let mut from = 0;
-    while from < text.len() {
-        let end = next(text, from, b'\n');
-        bench = played(rt, bench, &text[from..end]);
-        from = end + 1;
+    // Plays a line: a part begins, or a call is made.
+    fn play(&mut self, rt: &impl Print, text: &[u8]) {
+        let Some(line) = Line::read(text) else {
+            return;
+        };
+        let Some(begun) = Self::of_part(line.letter) else {
+            return self.call(rt, line);
+        };
+        say_bytes(rt, text);
+        say(rt, "\n");
+        if line.letter == b'C' {
+            cycles::compare(rt);
+        }
+        *self = begun;
     }
-}
 
-fn played(rt: &impl Print, bench: Bench, text: &[u8]) -> Bench {
-    if text.len() == 0 {
-        return bench;
+    fn call(&mut self, rt: &impl Print, line: Line) {
+        match self {
+            Bench::Empty => unknown(rt),
+            Bench::Port(port) => port::play(rt, port, line),
+            Bench::Unit(unit) => unit::play(rt, unit, line),
+            Bench::Controller(controller) => controller::play(rt, controller, line),
+            Bench::Machine(machine) => machine::play(rt, machine, line),
+        }
     }
-    let letter = text[0];
-    match letter {
-        b'P' | b'U' | b'I' | b'M' | b'C' => begun(rt, letter, text),
-        _ => called(rt, bench, Line::read(letter, text)),
-    }
-}
-
-fn begun(rt: &impl Print, part: u8, title: &[u8]) -> Bench {
-    say(rt, title);
-    say(rt, b"\n");
-    if part == b'C' {
-        cycles::compare(rt);
-    }
-    at_reset(part)
-}
-
-fn at_reset(part: u8) -> Bench {
-    Bench {
-        part,
-        port: Apbuart::reset_state(),
-        unit: Gptimer::reset_state(),
-        controller: Irqmp::reset_state(),
-        machine: Machine::reset_state(),
-    }
-}
-
-fn called(rt: &impl Print, mut bench: Bench, line: Line) -> Bench {
-    let part = bench.part;
-    match part {
-        b'P' => bench.port = port::play(rt, bench.port, line),
-        b'U' => bench.unit = unit::play(rt, bench.unit, line),
-        b'I' => bench.controller = controller::play(rt, bench.controller, line),
-        b'M' => bench.machine = machine::play(rt, bench.machine, line),
-        _ => unknown(rt),
-    }
-    bench
 }

@@ -1,68 +1,52 @@
 // A serial port's calls. Each is written with its answer and the line's level after it.
 use crate::line::{Line, byte, word};
-use crate::text::{fill, name};
-use devices::apbuart::{Answer, Apbuart};
+use crate::text::{say, unknown};
+use devices::apbuart::{Answer, Apbuart, Done};
 
-pub(crate) fn play(rt: &impl Print, port: Apbuart, line: Line) -> Apbuart {
-    name(
-        rt,
-        b"r  read $;\
-          w  write $ #;\
-          o  offer $;\
-          x  reset;\
-          c  CONTROL is #\n;\
-          q  the queue claims %\n;",
-        line,
-    );
-    call(rt, port, line)
-}
-
-fn call(rt: &impl Print, port: Apbuart, line: Line) -> Apbuart {
-    let letter = line.letter;
-    let answer = match letter {
-        b'r' => port.read(word(line.first)),
-        b'w' => port.write(word(line.first), word(line.second)),
-        b'o' => port.offer(byte(line.first)),
-        b'x' => port.reset(),
-        b'c' => return with_control(port, word(line.first)),
-        b'q' => return with_count(port, byte(line.first)),
-        _ => return port,
+pub(crate) fn play(rt: &impl Print, port: &mut Apbuart, line: Line) {
+    let [first, second, _] = line.numbers;
+    let answer = match line.letter {
+        b'r' => {
+            say(rt, format_args!("  read {first:02x}"));
+            port.read(word(first))
+        }
+        b'w' => {
+            say(rt, format_args!("  write {first:02x} {second:08x}"));
+            port.write(word(first), word(second))
+        }
+        b'o' => {
+            say(rt, format_args!("  offer {first:02x}"));
+            port.offer(byte(first))
+        }
+        b'x' => {
+            say(rt, "  reset");
+            port.reset()
+        }
+        b'c' => {
+            say(rt, format_args!("  CONTROL is {first:08x}\n"));
+            port.control = word(first);
+            return;
+        }
+        b'q' => {
+            say(rt, format_args!("  the queue claims {first}\n"));
+            port.queue.count = byte(first);
+            return;
+        }
+        _ => return unknown(rt),
     };
-    answered(rt, answer)
-}
-
-fn with_control(mut port: Apbuart, word: u32) -> Apbuart {
-    port.control = word;
-    port
-}
-
-fn with_count(mut port: Apbuart, count: u8) -> Apbuart {
-    port.queue.count = count;
-    port
+    *port = answered(rt, answer);
 }
 
 // Writes the answer and hands on the port.
 fn answered(rt: &impl Print, answer: Answer) -> Apbuart {
-    let port = answer.port;
-    shown(
-        rt,
-        answer.refusal,
-        answer.value,
-        answer.emitted,
-        answer.byte,
-        port.level,
-    );
-    port
-}
-
-fn shown(rt: &impl Print, refusal: u8, value: u32, emitted: bool, byte: u8, level: bool) {
-    fill(
-        rt,
-        b": refusal %, value #",
-        [refusal as u64, value as u64, 0, 0],
-    );
-    if emitted {
-        fill(rt, b", emitted $", [byte as u64, 0, 0, 0]);
+    let refusal = answer.number();
+    let Done { value, emitted } = answer.done();
+    let port = answer.device;
+    say(rt, format_args!(": refusal {refusal}, value {value:08x}"));
+    if let Some(byte) = emitted {
+        say(rt, format_args!(", emitted {byte:02x}"));
     }
-    fill(rt, b", level %\n", [level as u64, 0, 0, 0]);
+    let level = port.level as u8;
+    say(rt, format_args!(", level {level}\n"));
+    port
 }

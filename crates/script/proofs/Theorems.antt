@@ -3,7 +3,7 @@
 -- calls (`Conforms`, View.antt here and in the bus), so about what the code promises; `pieces_exist`, `input_cut_claim` and
 -- `room_claim`, and in the bus `port_claim` and those after it, are about the definitions. The words of the claims are in
 -- Steps.antt and Pieces.antt, and in Cuts.antt of the bus. Assumes nothing.
-use Rattle.std.specs.Prelude.{ℕ, suc, ◌≤◌, min, ◌≡◌, refl, true, false, List, ◌++◌, length, take, drop}
+use Rattle.std.specs.Prelude.{ℕ, suc, ◌≤◌, min, ◌≡◌, refl, true, false, List, ◌++◌, length, take, drop, Ok, Err}
 use Rattle.std.proofs.Common.{sym, ap, ◌∙◌, arith, ne_eqb}
 use Rattle.devices.specs.Refusal.{not_refused, ill_formed}
 use Rattle.bus.specs.Board.{gr712rc}
@@ -31,7 +31,6 @@ use Rattle.script.proofs.Laws.Program.{reset_well}
 use Rattle.script.specs.View.{Conforms}
 use Rattle.script.proofs.Laws.View.{run_did}
 use Rattle.script.specs.declared.format.Reason.{Reason}
-use Rattle.script.specs.declared.format.Verdict.TheVariants.{Accepted, Refused}
 use Rattle.script.specs.declared.run.Ran.{Ran}
 pub use Rattle.bus.proofs.Theorems.{skip_claim, well_claim, ill_claim, number_claim, accepted_claim, refusal_claim}
 pub use Rattle.bus.proofs.Theorems.{port_claim, unit_claim, controller_claim, register_claim, board_claim, window_claim}
@@ -137,7 +136,7 @@ room_claim = laws.piece_fits
 -- bytes are refused, and it is the refusal's line.
 pub refused_claim :
     (input : List ℕ) (reason : Reason) →
-    format.verdict_number (Refused reason) ≡ format.refusal format.script (take format.header_length input) →
+    format.verdict_number (Err reason) ≡ format.refusal format.script (take format.header_length input) →
     format.refusal_line (format.number_of reason) ≡ output input
 unfolding output
 refused_claim input reason e =
@@ -151,7 +150,7 @@ refused_claim input reason e =
 -- follows the header is cut between records.
 pub program_claim :
     (input : List ℕ) {m end : Machine} {joined : List ℕ} {inputs : List (List ℕ)} →
-    format.verdict_number Accepted ≡ format.refusal format.script (take format.header_length input) →
+    format.verdict_number (Ok tt) ≡ format.refusal format.script (take format.header_length input) →
     machine_of m ≡ bus.reset_state gr712rc → Cut (drop format.header_length input) inputs →
     Chain PieceWithRoom m inputs joined end → format.header format.log ++ joined ≡ output input
 unfolding output

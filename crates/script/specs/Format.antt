@@ -1,6 +1,6 @@
 -- What a script and a log begin with: paper 01, "Script and log". The code's struct says no more than the paper does, so
 -- the definitions are on that struct.
-use Rattle.std.specs.Prelude.{ℕ, not, ◌||◌, List, [], ◌∷◌, ◌++◌, ◌==◌, nat_lt, length}
+use Rattle.std.specs.Prelude.{ℕ, not, ◌||◌, List, [], ◌∷◌, ◌++◌, ◌==◌, nat_lt, length, Result, Ok, Err}
 use Rattle.devices.specs.Refusal.{not_refused}
 use Rattle.bus.specs.Call.{◌when◌, first}
 use Rattle.script.specs.Number.{number, encoded}
@@ -9,8 +9,6 @@ use Rattle.script.specs.Text.{text, decimal, newline}
 use Rattle.script.specs.declared.format.Format.{Format}
 use Rattle.script.specs.declared.format.Reason.{Reason}
 use Rattle.script.specs.declared.format.Reason.TheVariants.{BadFile, BadVersion}
-use Rattle.script.specs.declared.format.Verdict.{Verdict}
-use Rattle.script.specs.declared.format.Verdict.TheVariants.{Accepted, Refused}
 
 -- "A script starts with `APS` and a 16-bit version 1"; the mark's bytes are 41 50 53, here as a number
 abbrev pub script : Format
@@ -34,14 +32,15 @@ refusal f file =
     bad_version when not (number 3 2 file == f.version) ∷
     [])
 
--- The number of each of the code's reasons for a refusal, and of each verdict: "0 | not refused".
+-- The number of each of the code's reasons for a refusal, and of each verdict, where a file that is accepted has no reason: "0 | not
+-- refused".
 abbrev pub number_of : Reason → ℕ
 number_of BadFile = bad_file
 number_of BadVersion = bad_version
 
-abbrev pub verdict_number : Verdict → ℕ
-verdict_number Accepted = not_refused
-verdict_number (Refused reason) = number_of reason
+abbrev pub verdict_number : Result (Unit {0}) Reason → ℕ
+verdict_number (Ok accepted) = not_refused
+verdict_number (Err reason) = number_of reason
 
 -- "For a bad header it writes only `refused 11` or `refused 12` and a newline."
 abbrev pub refusal_line : ℕ → List ℕ

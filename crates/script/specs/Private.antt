@@ -1,20 +1,10 @@
 -- What functions of the crate that are not public promise; no public contract cites this.
-use Rattle.std.specs.Prelude.{ℕ, ◌+◌, ◌≡◌, Bool, cond, List, [], ◌∷◌, ◌++◌, reverse, get_or}
+use Rattle.std.specs.Prelude.{ℕ, ◌+◌, ◌≡◌, Bool, cond, List, [], ◌∷◌, ◌++◌, get_or}
 use Rattle.bus.specs.View.{machine_of}
 use Rattle.bus.specs.declared.machine.Machine.{Machine}
-use Rattle.script.specs.Number.{number, encoded}
-use Rattle.script.specs.Script.{Line, advance_line, skip_line, reset_line, acknowledge_line}
+use Rattle.script.specs.Number.{encoded}
 use Rattle.script.specs.Run.{Ran}
 use Rattle.script.specs.declared.entry.Part.{Part}
-use Rattle.script.specs.declared.record.Fields.{Fields}
-
--- a number of `count` bytes with them in the other order
-abbrev pub reversed : (count n : ℕ) → ℕ
-reversed count n = number 0 count (reverse (encoded count n))
-
--- the lines of the table for kinds 4 to 7
-abbrev pub lines4to7 : Fields → List Line
-lines4to7 r = advance_line r ∷ skip_line r ∷ reset_line r ∷ acknowledge_line r ∷ []
 
 -- numbers of 8 bytes, one behind the other
 abbrev pub longs : List ℕ → List ℕ

@@ -1,9 +1,13 @@
 -- Script records: paper 01, "Script and log", with the kind that paper 02, No. 4, adds.
 use Rattle.std.specs.Prelude.{ℕ, zero, suc, Bool, true, cond, ◌&&◌, List, [], ◌∷◌, ◌==◌, nat_lt, length, take, drop}
+use Rattle.std.specs.Prelude.{◌≡◌, ◌≢◌, Result, MatchResult}
 use Rattle.bus.specs.declared.machine.Call.{Call}
 use Rattle.bus.specs.declared.machine.Call.TheVariants.{Read, Write, Offer, Advance, Skip, Reset, Acknowledge, Malformed}
 use Rattle.script.specs.Number.{byte, number}
 use Rattle.script.specs.declared.record.Fields.{Fields}
+use Rattle.script.specs.declared.record.Kind.{Kind}
+use Rattle.script.specs.declared.record.Kind.TheVariants as kind
+use Rattle.script.specs.declared.record.UnknownKind.{UnknownKind}
 
 -- "A script record is 16 bytes"
 abbrev pub record_length : ℕ
@@ -31,6 +35,19 @@ RESET = 6
 -- 02: "A new script kind 7 acknowledges"
 abbrev pub ACKNOWLEDGE : ℕ
 ACKNOWLEDGE = 7
+
+-- The number of each of the code's kinds, and what a byte names: the kind of that number, or none.
+abbrev pub kind_number : Kind → ℕ
+kind_number kind.Read = READ
+kind_number kind.Write = WRITE
+kind_number kind.Offer = OFFER
+kind_number kind.Advance = ADVANCE
+kind_number kind.Skip = SKIP
+kind_number kind.Reset = RESET
+kind_number kind.Acknowledge = ACKNOWLEDGE
+
+abbrev pub Names : ℕ → Result Kind UnknownKind → Type 0
+Names byte r = MatchResult r (λ named. byte ≡ kind_number named) (λ unknown. (named : Kind) → byte ≢ kind_number named)
 
 -- The numbers in a record, by their places: "Kind (byte 0) | Byte 1 | Byte 2 | Bytes 4-7 | Bytes 8-15".
 abbrev pub fields : List ℕ → Fields

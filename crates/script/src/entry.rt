@@ -1,5 +1,5 @@
 // A log record, of 48 bytes: what a call answered.
-ghost use Rattle.std.specs.Prelude.{◌≡◌, cond, ◌+◌, ◌*◌, ◌≤◌, length};
+ghost use Rattle.std.specs.Prelude.{◌≡◌, is_some, unwrap_or, ◌+◌, ◌*◌, ◌≤◌, length};
 ghost use Rattle.bus.specs.Route.{replied};
 ghost use Rattle.bus.specs.View.{machine_of};
 ghost use Rattle.script.specs.Log as logs;
@@ -18,7 +18,7 @@ const LONGS: usize = 6;
 pub const LENGTH: usize = 48;
 
 // A field of a record, by its name.
-#[derive(Clone, Copy)]
+#[derive(Clone, Copy, Debug, PartialEq, Eq)]
 pub enum Field {
     Number,
     Emitted,
@@ -30,7 +30,7 @@ pub enum Field {
 }
 
 // A field, and how many bytes it has.
-#[derive(Clone, Copy)]
+#[derive(Clone, Copy, Debug, PartialEq, Eq)]
 pub struct Part {
     pub field: Field,
     pub width: usize,
@@ -91,48 +91,26 @@ pub(crate) fn put(log: &mut [u8], at: usize, reply: Reply, machine: Machine)
     requires { at + logs.entry_length ≤ length log.old }
     ensures { log.new ≡ wrote log.old at (logs.entry (replied reply (machine_of machine))) }
 {
-    let first = first_long(
-        reply.refusal,
-        reply.emitted,
-        reply.byte,
-        machine.levels(),
-        reply.value,
-    );
-    let pulses = reply.pulses;
-    let longs = [
-        first,
-        reply.cycles,
-        pulses[0],
-        pulses[1],
-        pulses[2],
-        pulses[3],
-    ];
-    put_longs(log, at, longs);
+    let first = first_long(reply.refusal, reply.emitted, machine.levels(), reply.value);
+    let [one, two, three, four] = reply.pulses;
+    put_longs(log, at, [first, reply.cycles, one, two, three, four]);
 }
 
 // The refusal number, the emitted byte, the line levels and the value read, as one number.
-fn first_long(refusal: u8, emitted: bool, byte: u8, levels: u8, value: u32) -> u64
-    ensures { big.encoded 8 result ≡ private.first_long refusal emitted byte levels value }
+fn first_long(refusal: u8, emitted: Option<u8>, levels: u8, value: u32) -> u64
+    ensures { big.encoded 8 result ≡ private.first_long refusal (is_some emitted) (unwrap_or emitted 0) levels value }
 {
-    let bytes = ((refusal as u64 * 0x100 + flag(emitted)) * 0x100 + byte as u64) * 0x100
-        + levels as u64;
+    let flag = u64::from(emitted.is_some());
+    let byte = emitted.unwrap_or(0);
+    let bytes = ((refusal as u64 * 0x100 + flag) * 0x100 + byte as u64) * 0x100 + levels as u64;
     bytes * 0x1_0000_0000 + value as u64
-}
-
-fn flag(set: bool) -> u64
-    ensures is { result ≡ cond set 1 0 }
-    ensures within { result ≤ 1 }
-{
-    if set { 1 } else { 0 }
 }
 
 fn put_longs(log: &mut [u8], at: usize, longs: [u64; LONGS])
     requires { at + 8 * 6 ≤ length log.old }
     ensures { log.new ≡ wrote log.old at (private.longs longs) }
 {
-    let mut i = 0;
-    while i < LONGS {
-        number::put_long(log, at + 8 * i, longs[i]);
-        i += 1;
+    for (i, n) in longs.iter().enumerate() {
+        number::put_long(log, at + 8 * i, *n);
     }
 }

@@ -2,38 +2,25 @@
 ghost use Rattle.std.specs.Prelude.{◌≡◌};
 ghost use Rattle.script.specs.Format as format;
 
-use crate::number::number;
-use crate::refusal;
-
-// Why a file is refused.
-#[derive(Clone, Copy)]
+// Why a file is refused, each with its refusal number; the bus has those of a call on a machine.
+#[derive(Clone, Copy, Debug, PartialEq, Eq)]
 pub enum Reason {
     // It is shorter than a header, or has the wrong mark.
-    BadFile,
+    BadFile = 11,
     // Its version is not the one that is read.
-    BadVersion,
-}
-
-// Whether a file is of the kind that it is taken for, by its first bytes.
-#[derive(Clone, Copy)]
-pub enum Verdict {
-    Accepted,
-    Refused(Reason),
+    BadVersion = 12,
 }
 
 impl Reason {
     pub fn number(self) -> u8
         ensures { result ≡ format.number_of self }
     {
-        match self {
-            Reason::BadFile => refusal::BAD_FILE,
-            Reason::BadVersion => refusal::BAD_VERSION,
-        }
+        self as u8
     }
 }
 
 // A kind of file: its mark, three bytes as a number, and its version.
-#[derive(Clone, Copy)]
+#[derive(Clone, Copy, Debug, PartialEq, Eq)]
 pub struct Format {
     pub mark: u32,
     pub version: u16,
@@ -56,43 +43,41 @@ impl Format {
     };
 
     // A file is judged by its first bytes: 11 before 12.
-    fn judge(self, file: &[u8]) -> Verdict
+    fn judge(self, file: &[u8]) -> Result<(), Reason>
         ensures { format.verdict_number result ≡ format.refusal self file.now }
     {
         if file.len() < Self::HEADER {
-            return Verdict::Refused(Reason::BadFile);
+            return Err(Reason::BadFile);
         }
-        if number(file, 0, 3) != self.mark as u64 {
-            return Verdict::Refused(Reason::BadFile);
+        let mark = u32::from_be_bytes([0, file[0], file[1], file[2]]);
+        if mark != self.mark {
+            return Err(Reason::BadFile);
         }
-        if number(file, 3, 2) != self.version as u64 {
-            return Verdict::Refused(Reason::BadVersion);
+        let version = u16::from_be_bytes([file[3], file[4]]);
+        if version != self.version {
+            return Err(Reason::BadVersion);
         }
-        Verdict::Accepted
+        Ok(())
     }
 
     fn header(self) -> [u8; Format::HEADER]
         ensures { result ≡ format.header self }
     {
-        [
-            (self.mark / 0x100 / 0x100 % 0x100) as u8,
-            (self.mark / 0x100 % 0x100) as u8,
-            (self.mark % 0x100) as u8,
-            (self.version / 0x100 % 0x100) as u8,
-            (self.version % 0x100) as u8,
-        ]
+        let [_, a, b, c] = self.mark.to_be_bytes();
+        let [d, e] = self.version.to_be_bytes();
+        [a, b, c, d, e]
     }
 }
 
 // Whether a file is a script, by its first bytes.
-pub fn judge_script(file: &[u8]) -> Verdict
+pub fn judge_script(file: &[u8]) -> Result<(), Reason>
     ensures { format.verdict_number result ≡ format.refusal format.script file.now }
 {
     Format::SCRIPT.judge(file)
 }
 
 // Whether a file is a log, by its first bytes.
-pub fn judge_log(file: &[u8]) -> Verdict
+pub fn judge_log(file: &[u8]) -> Result<(), Reason>
     ensures { format.verdict_number result ≡ format.refusal format.log file.now }
 {
     Format::LOG.judge(file)
@@ -110,19 +95,8 @@ pub fn refusal_line(reason: Reason) -> [u8; 11]
     ensures { result ≡ format.refusal_line (format.number_of reason) }
 {
     let number = reason.number();
-    let tens = number / 10 % 10;
-    let ones = number % 10;
-    [
-        b'r',
-        b'e',
-        b'f',
-        b'u',
-        b's',
-        b'e',
-        b'd',
-        b' ',
-        b'0' + tens,
-        b'0' + ones,
-        b'\n',
-    ]
+    let mut line = *b"refused 00\n";
+    line[8] = b'0' + number / 10;
+    line[9] = b'0' + number % 10;
+    line
 }

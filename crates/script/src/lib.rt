@@ -6,5 +6,4 @@ pub mod entry;
 pub mod format;
 pub mod number;
 pub mod record;
-pub mod refusal;
 pub mod run;

@@ -1,6 +1,6 @@
 // A script record, of 16 bytes: the call that it stands for.
-ghost use Rattle.std.specs.Prelude.{◌≡◌, [], ◌∷◌, ◌≤◌, length};
-ghost use Rattle.script.specs.Private as private;
+ghost use Rattle.std.specs.Prelude.{◌≡◌, cond, ◌≤◌, length};
+ghost use Rattle.bus.specs.declared.machine.Call.TheVariants.{Malformed};
 ghost use Rattle.script.specs.Script as scripts;
 
 use crate::number::{long, word};
@@ -10,19 +10,39 @@ use bus::machine::Call;
 pub const LENGTH: usize = 16;
 
 // The kinds, by a record's first byte.
-pub const READ: u8 = 1;
+#[derive(Clone, Copy, Debug, PartialEq, Eq)]
+pub enum Kind {
+    Read,
+    Write,
+    Offer,
+    Advance,
+    Skip,
+    Reset,
+    Acknowledge,
+}
 
-pub const WRITE: u8 = 2;
+// No kind has the byte.
+#[derive(Clone, Copy, Debug, PartialEq, Eq)]
+pub struct UnknownKind;
 
-pub const OFFER: u8 = 3;
+impl TryFrom<u8> for Kind {
+    type Error = UnknownKind;
 
-pub const ADVANCE: u8 = 4;
+    ghost try_from_gives = { scripts.Names };
 
-pub const SKIP: u8 = 5;
-
-pub const RESET: u8 = 6;
-
-pub const ACKNOWLEDGE: u8 = 7;
+    fn try_from(byte: u8) -> Result<Self, UnknownKind> {
+        match byte {
+            1 => Ok(Kind::Read),
+            2 => Ok(Kind::Write),
+            3 => Ok(Kind::Offer),
+            4 => Ok(Kind::Advance),
+            5 => Ok(Kind::Skip),
+            6 => Ok(Kind::Reset),
+            7 => Ok(Kind::Acknowledge),
+            _ => Err(UnknownKind),
+        }
+    }
+}
 
 // The numbers in a record, by their places.
 #[derive(Clone, Copy)]
@@ -67,22 +87,22 @@ impl Fields {
     fn call(self) -> Call
         ensures { result ≡ scripts.call_among self.kind (scripts.table self) }
     {
-        if self.kind == READ {
-            return self.read();
+        match Kind::try_from(self.kind) {
+            Ok(Kind::Read) => self.read(),
+            Ok(Kind::Write) => self.write(),
+            Ok(Kind::Offer) => self.offer(),
+            Ok(Kind::Advance) => self.span(Call::Advance(self.bytes_8_15)),
+            Ok(Kind::Skip) => self.span(Call::Skip(self.bytes_8_15)),
+            Ok(Kind::Reset) => self.bare(Call::Reset),
+            Ok(Kind::Acknowledge) => self.bare(Call::Acknowledge),
+            Err(UnknownKind) => Call::Malformed,
         }
-        if self.kind == WRITE {
-            return self.write();
-        }
-        if self.kind == OFFER {
-            return self.offer();
-        }
-        self.kinds_4_to_7()
     }
 
     fn read(self) -> Call
         ensures { result ≡ scripts.call_on (scripts.read_line self) }
     {
-        if is_blank(0, self.byte_2, self.byte_3, 0, self.bytes_8_15) {
+        if self.byte_2 == 0 && self.byte_3 == 0 && self.bytes_8_15 == 0 {
             return Call::Read {
                 address: self.bytes_4_7,
                 size: self.byte_1,
@@ -94,7 +114,7 @@ impl Fields {
     fn write(self) -> Call
         ensures { result ≡ scripts.call_on (scripts.write_line self) }
     {
-        if is_blank(0, self.byte_2, self.byte_3, self.bytes_8_11, 0) {
+        if self.byte_2 == 0 && self.byte_3 == 0 && self.bytes_8_11 == 0 {
             return Call::Write {
                 address: self.bytes_4_7,
                 size: self.byte_1,
@@ -107,7 +127,7 @@ impl Fields {
     fn offer(self) -> Call
         ensures { result ≡ scripts.call_on (scripts.offer_line self) }
     {
-        if is_blank(0, 0, self.byte_3, self.bytes_4_7, self.bytes_8_15) {
+        if self.byte_3 == 0 && self.bytes_4_7 == 0 && self.bytes_8_15 == 0 {
             return Call::Offer {
                 port: self.byte_1,
                 byte: self.byte_2,
@@ -116,50 +136,23 @@ impl Fields {
         Call::Malformed
     }
 
-    // They all leave bytes 1 to 7 blank, and the last two the others as well.
-    fn kinds_4_to_7(self) -> Call
-        ensures { result ≡ scripts.call_among self.kind (private.lines4to7 self) }
+    // A call whose records have a number in bytes 8 to 15 at most.
+    fn span(self, call: Call) -> Call
+        ensures { result ≡ cond (scripts.all_zero (scripts.advance_line self).blanks) call Malformed }
     {
-        if !is_blank(self.byte_1, self.byte_2, self.byte_3, self.bytes_4_7, 0) {
-            return Call::Malformed;
-        }
-        if self.kind == ADVANCE {
-            return Call::Advance(self.bytes_8_15);
-        }
-        if self.kind == SKIP {
-            return Call::Skip(self.bytes_8_15);
-        }
-        if self.bytes_8_15 != 0 {
-            return Call::Malformed;
-        }
-        if self.kind == RESET {
-            return Call::Reset;
-        }
-        if self.kind == ACKNOWLEDGE {
-            return Call::Acknowledge;
+        if self.byte_1 == 0 && self.byte_2 == 0 && self.byte_3 == 0 && self.bytes_4_7 == 0 {
+            return call;
         }
         Call::Malformed
     }
-}
 
-// Whether what a line of the table leaves blank is 0: bytes, a word and a long one. A caller passes 0 for what is not blank.
-fn is_blank(first: u8, second: u8, third: u8, word: u32, long: u64) -> bool
-    ensures { result ≡ scripts.all_zero (first ∷ second ∷ third ∷ word ∷ long ∷ []) }
-{
-    if first != 0 {
-        return false;
+    // A call whose records have none there either.
+    fn bare(self, call: Call) -> Call
+        ensures { result ≡ cond (scripts.all_zero (scripts.reset_line self).blanks) call Malformed }
+    {
+        if self.bytes_8_15 == 0 {
+            return self.span(call);
+        }
+        Call::Malformed
     }
-    if second != 0 {
-        return false;
-    }
-    if third != 0 {
-        return false;
-    }
-    if word != 0 {
-        return false;
-    }
-    if long != 0 {
-        return false;
-    }
-    true
 }

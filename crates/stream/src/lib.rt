@@ -2,59 +2,58 @@
 // end, and nothing says that a file does: the loops count their turns, up to a number that no run uses up.
 #![tactic(auto)]
 
-ghost use Rattle.std.specs.Prelude.{◌≤◌, length};
+ghost use Rattle.std.specs.Prelude.{◌≤◌, length, IfOk, IfErr};
 ghost use Rattle.stream.specs.Counts.{IsPrefixLen};
 
 use std::io::{Cursor, Error, ErrorKind, Read, Write};
 
-// What came of filling a buffer.
-#[derive(Clone, Copy)]
-pub struct Filled {
-    // How many bytes came: fewer than the buffer holds where the input ended, or where a read failed.
+// A read failed, behind so many bytes.
+#[derive(Clone, Copy, Debug, PartialEq, Eq)]
+pub struct Failed {
     pub count: usize,
-    pub failed: bool,
 }
 
-// Reads until the buffer is full or the input ends. A read may bring fewer bytes than were asked for, and one that a signal
-// interrupts is made again.
+// Reads until the buffer is full or the input ends, and answers how many bytes came: fewer than the buffer holds where the input
+// ended. A read may bring fewer bytes than were asked for, and one that a signal interrupts is made again.
 pub fn fill<R: Read, E: Write>(
     reader: &mut R,
     name: &[u8],
     buffer: &mut [u8],
     stderr: &mut E,
-) -> Filled
-    ensures { IsPrefixLen result.count buffer.new }
+) -> Result<usize, Failed>
+    ensures ok { IfOk result (λ count. IsPrefixLen count buffer.new) }
+    ensures err { IfErr result (λ failed. IsPrefixLen failed.count buffer.new) }
 {
     let mut count = 0;
     for _ in 0..u64::MAX {
         if buffer.len() <= count {
-            return Filled {
-                count,
-                failed: false,
-            };
+            return Ok(count);
         }
         match reader.read(&mut buffer[count..]) {
-            Ok(0) => {
-                return Filled {
-                    count,
-                    failed: false,
-                };
-            }
+            Ok(0) => return Ok(count),
             Ok(got) => count += got,
             Err(error) if error.kind() == ErrorKind::Interrupted => {}
             Err(error) => {
                 fail(name, &error, stderr);
-                return Filled {
-                    count,
-                    failed: true,
-                };
+                return Err(Failed { count });
             }
         }
     }
-    Filled {
-        count,
-        failed: true,
+    Err(Failed { count })
+}
+
+// Reads until the buffer is full, the input ends or a read fails. How many bytes it put at the buffer's start.
+pub fn read_full(input: &mut impl Read, buffer: &mut [u8]) -> usize
+    ensures { result ≤ length buffer.new }
+{
+    let mut count = 0;
+    while count < buffer.len() {
+        match input.read(&mut buffer[count..]) {
+            Ok(0) | Err(_) => break,
+            Ok(more) => count += more,
+        }
     }
+    count
 }
 
 // Writes the bytes, and answers how many it could: fewer than all where a write failed. A write may take fewer than it was given,
@@ -83,7 +82,8 @@ pub fn emit<W: Write, E: Write>(writer: &mut W, name: &[u8], bytes: &[u8], stder
     count
 }
 
-// Writes a line to standard error: what failed, as the caller names it, and the system's words for the error.
+// Writes a line to standard error: what failed, as the caller names it, and the system's words for the error. (It promises nothing:
+// no contract can say what a stream takes.)
 pub fn fail<E: Write>(name: &[u8], error: &Error, stderr: &mut E) {
     let mut room = Cursor::new([0; ROOM]);
     let _ = write!(room, "{error}");

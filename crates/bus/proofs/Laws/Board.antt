@@ -1,12 +1,11 @@
 -- What follows from the definitions of the windows, for every table. Assumes nothing.
-use Rattle.std.specs.Prelude.{ℕ, zero, suc, ◌≤◌, ◌<◌, ◌≡◌, refl, true, false, List, [], ◌∷◌, ltb, leb, length, get_or}
+use Rattle.std.specs.Prelude.{ℕ, zero, suc, ◌≤◌, ◌<◌, ◌≡◌, refl, true, false, List, [], ◌∷◌, ltb, leb, length, get_or, Some}
 use Rattle.std.proofs.Common.{sym, ◌∙◌, true≢false, arith, le-ltb, le-leb, leb-true, ltb-true}
 use Rattle.std.proofs.Math.Bool.{and-eq-true_iff}
 use Rattle.std.proofs.Math.Decide.{dec_lt}
 use Rattle.std.proofs.lemmas.Bool.{lt-leb}
 use Rattle.bus.specs.Board.{end, holds, window_at, apart, apart_from, all_apart}
 use Rattle.bus.specs.declared.board.Window.{Window}
-use Rattle.bus.specs.declared.board.Found.TheVariants.{In}
 
 -- Where two windows are apart, an address that lies in one lies outside the other.
 elsewhere : (address : ℕ) (v w : Window) → apart v w ≡ true → holds address w ≡ true → holds address v ≡ false
@@ -37,7 +36,7 @@ apart_at v (w ∷ ws) (suc i) z e l =
 -- In a table whose windows do not overlap, a window that holds the address is the one that is found.
 pub one_window :
     (ws : List Window) (address i : ℕ) (z : Window) → all_apart ws ≡ true → i < length ws →
-    holds address (get_or ws i z) ≡ true → window_at address ws ≡ In (get_or ws i z)
+    holds address (get_or ws i z) ≡ true → window_at address ws ≡ Some (get_or ws i z)
 one_window [] address i z e l h = absurd (omega arith)
 one_window (w ∷ ws) address zero z e l h = rw h refl
 one_window (w ∷ ws) address (suc i) z e l h =

@@ -1,5 +1,5 @@
 -- What follows from the definitions of the calls, for every board. Assumes nothing.
-use Rattle.std.specs.Prelude.{ℕ, zero, suc, ◌-◌, ◌≡◌, Bool, true, false, cond, not, ◌&&◌, List, [], ◌∷◌, ◌++◌, eqb, ltb, leb, length, get_or, set}
+use Rattle.std.specs.Prelude.{ℕ, zero, suc, ◌-◌, ◌≡◌, Bool, true, false, cond, not, ◌&&◌, List, [], ◌∷◌, ◌++◌, eqb, ltb, leb, length, get_or, set, Option, Some, None}
 use Rattle.std.proofs.Math.Path.{refl}
 use Rattle.std.proofs.Common.{sym, ◌∙◌, arith}
 use Rattle.std.proofs.Math.Bool.{and-eq-true_iff}
@@ -15,10 +15,9 @@ use Rattle.devices.specs.Gptimer as gpt
 use Rattle.devices.specs.Irqmp as irq
 use Rattle.devices.proofs.Laws.Irqmp as controller'
 use Rattle.devices.specs.declared.gptimer.Gptimer.{Gptimer}
-use Rattle.devices.specs.declared.gptimer.Answer as unit
+use Rattle.devices.specs.Answer as devices
 use Rattle.devices.specs.declared.gptimer.Elapsed.{Elapsed}
 use Rattle.devices.specs.declared.irqmp.Irqmp.{Irqmp}
-use Rattle.devices.specs.declared.irqmp.Answer as controller
 use Rattle.bus.specs.Refusal.{no_port}
 use Rattle.bus.specs.Machine.{Machine, port_at, with_unit, with_irqmp, all_well, well_formed, reset_state}
 use Rattle.bus.specs.Machine.{Answer, refused, accepted, of_port, of_timer_unit, of_controller}
@@ -28,10 +27,9 @@ use Rattle.bus.proofs.Laws.Time.{quiet_answer, of_unit, advance_unit, skip_unit}
 use Rattle.bus.specs.Call as call
 use Rattle.bus.specs.Call.{Rule, first, Subject, byte_for, other, table, refusal, window_of, subject}
 use Rattle.bus.specs.Call.{read_device, write_device, reach, execute, answer}
+use Rattle.bus.specs.declared.board.Window.{Window}
 use Rattle.bus.specs.declared.board.Device.{Device}
 use Rattle.bus.specs.declared.board.Device.TheVariants as device
-use Rattle.bus.specs.declared.board.Found.{Found}
-use Rattle.bus.specs.declared.board.Found.TheVariants.{In, Nowhere}
 use Rattle.bus.specs.declared.machine.Call.{Call}
 use Rattle.bus.specs.declared.machine.Call.TheVariants.{Read, Write, Offer, Advance, Skip, Reset, Acknowledge, Malformed}
 
@@ -49,19 +47,19 @@ module _
   unit_step : (value : ℕ) (u : Gptimer) → P (stepped m (accepted value (with_unit u m)))
   unit_step value u = rw (quiet_answer value m (with_unit u m) refl) (units value u)
 
-  unit_answer : (a : unit.Answer) → P (stepped m (of_timer_unit a m))
-  unit_answer a = unit_step a.value a.unit
+  unit_answer : (a : devices.Answer Gptimer) → P (stepped m (of_timer_unit a m))
+  unit_answer a = unit_step a.value a.device
 
   controller_step :
-      (a : controller.Answer) → irq.well_formed a.controller ≡ irq.well_formed m.irqmp → P (stepped m (of_controller a m))
+      (a : devices.Answer Irqmp) → irq.well_formed a.device ≡ irq.well_formed m.irqmp → P (stepped m (of_controller a m))
   controller_step a kept =
-      rw (quiet_answer a.value m (with_irqmp a.controller m) refl) (controllers a.value a.controller kept)
+      rw (quiet_answer a.value m (with_irqmp a.device m) refl) (controllers a.value a.device kept)
 
   reaches :
-      (reply : Device → ℕ → Answer) (address : ℕ) (found : Found) → ((d : Device) (offset : ℕ) → P (stepped m (reply d offset))) →
+      (reply : Device → ℕ → Answer) (address : ℕ) (found : Option Window) → ((d : Device) (offset : ℕ) → P (stepped m (reply d offset))) →
       P (stepped m (reach reply m address found))
-  reaches reply address (In w) p = p w.device (address - w.base)
-  reaches reply address Nowhere p = unit_step 0 m.unit
+  reaches reply address (Some w) p = p w.device (address - w.base)
+  reaches reply address None p = unit_step 0 m.unit
 
   reads : (d : Device) (offset : ℕ) → P (stepped m (read_device m d offset))
   reads (device.Port n) offset = ports n (uart.read offset (port_at n m)) (read_keeps offset (port_at n m))
@@ -83,7 +81,7 @@ module _
   execute_all (Skip limit) = rw (skip_unit limit m) (spans (gpt.skip limit m.unit))
   execute_all Reset = resets
   execute_all Acknowledge =
-      controllers (irq.acknowledge m.irqmp).value (irq.acknowledge m.irqmp).controller
+      controllers (irq.acknowledge m.irqmp).value (irq.acknowledge m.irqmp).device
       (controller'.acknowledge_keeps m.irqmp)
   execute_all Malformed = units 0 m.unit
 
@@ -211,7 +209,7 @@ execute_well : (c : Call) (m : Machine) → well_formed m ≡ true → well_form
 unfolding all_well uart.well_formed irq.well_formed
 execute_well c m w =
     let ports = well_ports_lem m w in
-    let set : (lines : ℕ) → irq.well_formed (irq.set_pending lines m.irqmp).controller ≡ true =
+    let set : (lines : ℕ) → irq.well_formed (irq.set_pending lines m.irqmp).device ≡ true =
     λ lines. controller'.set_keeps lines m.irqmp ∙ well_irqmp m w in
     execute_all (λ a. well_formed a.machine ≡ true) m
     (λ n a kept. rw (well_set m.ports n a.port ports (kept ∙ well_at m.ports n ports), set _) refl)

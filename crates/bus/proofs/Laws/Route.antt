@@ -1,8 +1,8 @@
 -- What comes of a route on a machine of the code, from what its device answered: for whoever carries routes out, by value
 -- (`Machine::call`) or where the machine lies (a run). Assumes nothing.
-use Rattle.std.specs.Prelude.{ℕ, zero, suc, ◌*◌, ◌^◌, ◌<◌, ◌≡◌, true, cond, List, [], ◌∷◌, map, length, set}
+use Rattle.std.specs.Prelude.{ℕ, zero, suc, Option, Some, ◌*◌, ◌^◌, ◌<◌, ◌≡◌, true, cond, List, [], ◌∷◌, map, length, set}
 use Rattle.std.proofs.Math.Path.{refl, sym, ap}
-use Rattle.std.proofs.Common.{◌∙◌, arith, lit<, Fits, ltb-true}
+use Rattle.std.proofs.Common.{◌∙◌, arith, Fits, ltb-true}
 use Rattle.std.proofs.Math.ListN.{get_or}
 use Rattle.std.proofs.lemmas.List.{length-map}
 use Rattle.std.proofs.Math.Seq.{set-get_or}
@@ -19,26 +19,29 @@ use Rattle.devices.proofs.Laws.Gptimer as unit'
 use Rattle.devices.proofs.Laws.Irqmp.{set_none, read_same, write_same, acknowledge_same}
 use Rattle.devices.specs.Gptimer.Span.{pass, counted_down, Tells}
 use Rattle.devices.specs.declared.apbuart.Apbuart.{Apbuart}
-use Rattle.devices.specs.declared.apbuart.Answer as apbuart
+use Rattle.devices.specs.declared.apbuart.Done.{Done}
 use Rattle.devices.specs.declared.apbuart.Call.{Call}
 use Rattle.devices.specs.declared.gptimer.Gptimer.{Gptimer}
-use Rattle.devices.specs.declared.gptimer.Answer as unit
+use Rattle.devices.specs.Answer as devices
+use Rattle.devices.specs.Answer.View.{number_in, value_in, answer_of}
+use Rattle.devices.specs.declared.answer.Answer as own
 use Rattle.devices.specs.declared.gptimer.Elapsed.{Elapsed}
 use Rattle.devices.specs.declared.gptimer.Span.{Span}
 use Rattle.devices.specs.declared.gptimer.Span.TheVariants.{Cycles, ToPulse}
-use Rattle.devices.specs.declared.gptimer.BeforeTick.{BeforeTick}
-use Rattle.devices.specs.declared.gptimer.BeforeTick.TheVariants.{Yes}
+use Rattle.devices.specs.declared.gptimer.Short.{Short}
 use Rattle.devices.specs.declared.irqmp.Irqmp.{Irqmp}
-use Rattle.devices.specs.declared.irqmp.Answer as irqmp
+use Rattle.bus.specs.Refusal.{number_of}
 use Rattle.bus.specs.Board.{gr712rc}
 use Rattle.bus.specs.Machine as bus
 use Rattle.bus.specs.Time as time
 use Rattle.bus.specs.Time.{lines_of, pulsed, rises}
 use Rattle.bus.proofs.Laws.Time.{still, quiet_lines, port_step, of_unit, advance_unit, skip_unit}
-use Rattle.bus.specs.Route.{port_answer, value_answer, span_answer, passes, carried_out, port_exists, Leads}
-use Rattle.bus.specs.View.{machine_of}
+use Rattle.bus.specs.Route.{replied, port_answer, value_answer, span_answer, passes, carried_out, port_exists, Leads}
+use Rattle.bus.specs.View.{machine_of, CarriesOut}
 use Rattle.bus.specs.declared.machine.Machine.{Machine}
 use Rattle.bus.specs.declared.machine.Call as machine
+use Rattle.bus.specs.declared.reply.Reply.{Reply}
+use Rattle.bus.specs.declared.refusal.Refusal.{Refusal}
 use Rattle.bus.specs.declared.route.Route.{Route}
 use Rattle.bus.specs.declared.route.Route.TheVariants.{Refused, Port, Read, Write, Acknowledge, Pass, Reset}
 use Rattle.bus.specs.declared.route.Core.{Core}
@@ -59,6 +62,17 @@ pub record Outcome (m : Machine) (route : Route) (a : bus.Answer) (next : Machin
   pub machine : a.machine ≡ machine_of next
   pub same : (a.refusal ≡ not_refused → ⊥) → next ≡ m
 
+-- The code's reply says what the route answers.
+pub carries_out :
+    (m next : Machine) (route : Route) (r : Reply) (f : bus.Machine → bus.Answer) → replied r ≡ f →
+    Outcome m route (f (machine_of next)) next → CarriesOut route m r next
+carries_out m next route r f says h =
+    let whole : replied r (machine_of next) ≡ f (machine_of next) = ap (λ g. g (machine_of next)) says in
+    record {
+      answer = whole ∙ sym h.answer;
+      same = λ refused. h.same (λ z. refused (ap (λ (x : bus.Answer). x.refusal) whole ∙ z));
+    }
+
 -- One port of the code's machine.
 ports_set : (ps : List Apbuart) (i : ℕ) (p : Apbuart) → map port_of (set ps i p) ≡ set (map port_of ps) i (port_of p)
 ports_set [] i p = refl
@@ -71,23 +85,30 @@ port_viewed [] i z l = absurd (omega arith)
 port_viewed (p ∷ ps) zero z l = refl
 port_viewed (p ∷ ps) (suc i) z l = port_viewed ps i z (omega arith)
 
+-- A refused answer of the code leaves the device, as the defined one does.
+left :
+    {D : Type 0} (x : own.Answer D ℕ) (a : devices.Answer D) {d : D} → answer_of x ≡ a →
+    ((a.refusal ≡ not_refused → ⊥) → a.device ≡ d) → (number_in x.outcome ≡ not_refused → ⊥) → x.device ≡ d
+left x a e same refused = ap (λ b. b.device) e ∙ same (λ z. refused (ap (λ b. b.refusal) e ∙ z))
+
 -- A span of the machine is the timer unit's, with the lines of the timers that pulsed.
 passes_unit : (span : Span) (m : bus.Machine) → passes span m ≡ of_unit (pass span m.unit) m
 passes_unit (Cycles cycles) m = advance_unit cycles m
 passes_unit (ToPulse limit) m = skip_unit limit m
 
 module _ (m : Machine) (route : Route) where
-  pub refused_outcome : (number : ℕ) → route ≡ Refused number → Outcome m route (bus.refused number (machine_of m)) m
+  pub refused_outcome :
+      (refusal : Refusal) → route ≡ Refused refusal → Outcome m route (bus.refused (number_of refusal) (machine_of m)) m
   unfolding carried_out
-  refused_outcome number e = record { answer = rw e refl; machine = refl; same = λ refused. refl }
+  refused_outcome refusal e = record { answer = rw e refl; machine = refl; same = λ refused. refl }
 
   pub port_outcome :
-      (n : ℕ) (z : Apbuart) (x : apbuart.Answer) (c : Call) (d : Irqmp) → route ≡ Port n c → n < 6 → length m.ports ≡ 6 →
+      (n : ℕ) (z : Apbuart) (x : own.Answer Apbuart Done) (c : Call) (d : Irqmp) → route ≡ Port n c → n < 6 → length m.ports ≡ 6 →
       port.Conforms (get_or m.ports n z) (answer_to c (port_of (get_or m.ports n z))) x →
       d ≡
-      (irq.set_pending (cond (rises (get_or m.ports n z).level x.port.level) (get_or gr712rc.lines.ports n 0) 0)
-      m.irqmp).controller →
-      (let next : Machine = store_irqmp d (store_port n x.port m) in
+      (irq.set_pending (cond (rises (get_or m.ports n z).level x.device.level) (get_or gr712rc.lines.ports n 0) 0)
+      m.irqmp).device →
+      (let next : Machine = store_irqmp d (store_port n x.device m) in
       Outcome m route (port_answer (port.answer_of x) (machine_of next)) next)
   unfolding carried_out gr712rc
   port_outcome n z x c d e l whole conforms set-by =
@@ -95,16 +116,16 @@ module _ (m : Machine) (route : Route) where
       let own : answer_to c (bus.port_at n (machine_of m)) ≡ port.answer_of x =
       ap (answer_to c) (sym viewed) ∙ sym conforms.answer in
       let was : (get_or m.ports n z).level ≡ (bus.port_at n (machine_of m)).level = ap (λ (p : uart.Port). p.level) viewed in
-      let stepped : bus.Machine = machine_of (store_irqmp d (store_port n x.port m)) in
-      let after : time.step bus.no_pulses (machine_of m) (bus.with_port n (port_of x.port) (machine_of m)) ≡ stepped =
-      port_step n (port_of x.port) (machine_of m) (rw (length-map, whole) (omega arith)) ∙
-      rw (ports_set m.ports n x.port, set-by, was) refl in
+      let stepped : bus.Machine = machine_of (store_irqmp d (store_port n x.device m)) in
+      let after : time.step bus.no_pulses (machine_of m) (bus.with_port n (port_of x.device) (machine_of m)) ≡ stepped =
+      port_step n (port_of x.device) (machine_of m) (rw (length-map, whole) (omega arith)) ∙
+      rw (ports_set m.ports n x.device, set-by, was) refl in
       record {
         answer = rw (e, own) (ap (port_answer (port.answer_of x)) after);
         machine = refl;
         same =
             λ refused.
-            let back : x.port ≡ get_or m.ports n z = conforms.same refused in
+            let back : x.device ≡ get_or m.ports n z = conforms.same refused in
             let none : d ≡ m.irqmp = set-by ∙ rw (back, still (get_or m.ports n z).level) (set_none m.irqmp) in
             rw (back, none, set-get_or m.ports n z) refl;
       }
@@ -122,48 +143,50 @@ module _ (m : Machine) (route : Route) where
   core_outcome refusal value next e back = record { answer = e; machine = refl; same = back }
 
   pub unit_read_outcome :
-      (core : Core) (offset : ℕ) (x : unit.Answer) → route ≡ Read offset core → core ≡ TimerUnit →
-      x ≡ gpt.read offset m.unit → Outcome m route (value_answer x.refusal x.value (machine_of m)) m
+      (core : Core) (offset : ℕ) (x : own.Answer Gptimer ℕ) → route ≡ Read offset core → core ≡ TimerUnit →
+      answer_of x ≡ gpt.read offset m.unit → Outcome m route (value_answer (number_in x.outcome) (value_in x.outcome) (machine_of m)) m
   unfolding carried_out
   unit_read_outcome core offset x e k f =
-      core_outcome _ _ m (rw (e, k, f, unit'.read_same offset m.unit) refl) (λ refused. refl)
+      let same : x.device ≡ m.unit = ap (λ a. a.device) f ∙ unit'.read_same offset m.unit in
+      core_outcome _ _ m (rw (e, k, ← f, same) refl) (λ refused. refl)
 
   pub unit_write_outcome :
-      (core : Core) (offset value : ℕ) (x : unit.Answer) → route ≡ Write offset value core → core ≡ TimerUnit →
-      x ≡ gpt.write offset value m.unit →
-      Outcome m route (value_answer x.refusal x.value (machine_of (store_unit x.unit m))) (store_unit x.unit m)
+      (core : Core) (offset value : ℕ) (x : own.Answer Gptimer ℕ) → route ≡ Write offset value core → core ≡ TimerUnit →
+      answer_of x ≡ gpt.write offset value m.unit →
+      Outcome m route (value_answer (number_in x.outcome) (value_in x.outcome) (machine_of (store_unit x.device m))) (store_unit x.device m)
   unfolding carried_out
   unit_write_outcome core offset value x e k f =
-      core_outcome _ _ (store_unit x.unit m) (rw (e, k, ← f) refl)
-      (rw f (λ refused. rw (unit'.write_same offset value m.unit refused) refl))
+      core_outcome _ _ (store_unit x.device m) (rw (e, k, ← f) refl)
+      (λ refused. rw (left _ _ f (unit'.write_same offset value m.unit) refused) refl)
 
   pub controller_read_outcome :
-      (core : Core) (offset : ℕ) (x : irqmp.Answer) → route ≡ Read offset core → core ≡ Controller →
-      x ≡ irq.read offset m.irqmp → Outcome m route (value_answer x.refusal x.value (machine_of m)) m
+      (core : Core) (offset : ℕ) (x : own.Answer Irqmp ℕ) → route ≡ Read offset core → core ≡ Controller →
+      answer_of x ≡ irq.read offset m.irqmp → Outcome m route (value_answer (number_in x.outcome) (value_in x.outcome) (machine_of m)) m
   unfolding carried_out
   controller_read_outcome core offset x e k f =
-      core_outcome _ _ m (rw (e, k, f, read_same offset m.irqmp) refl) (λ refused. refl)
+      let same : x.device ≡ m.irqmp = ap (λ a. a.device) f ∙ read_same offset m.irqmp in
+      core_outcome _ _ m (rw (e, k, ← f, same) refl) (λ refused. refl)
 
   pub controller_write_outcome :
-      (core : Core) (offset value : ℕ) (x : irqmp.Answer) → route ≡ Write offset value core → core ≡ Controller →
-      x ≡ irq.write offset value m.irqmp →
-      Outcome m route (value_answer x.refusal x.value (machine_of (store_irqmp x.controller m))) (store_irqmp x.controller m)
+      (core : Core) (offset value : ℕ) (x : own.Answer Irqmp ℕ) → route ≡ Write offset value core → core ≡ Controller →
+      answer_of x ≡ irq.write offset value m.irqmp →
+      Outcome m route (value_answer (number_in x.outcome) (value_in x.outcome) (machine_of (store_irqmp x.device m))) (store_irqmp x.device m)
   unfolding carried_out
   controller_write_outcome core offset value x e k f =
-      core_outcome _ _ (store_irqmp x.controller m) (rw (e, k, ← f) refl)
-      (rw f (λ refused. rw (write_same offset value m.irqmp refused) refl))
+      core_outcome _ _ (store_irqmp x.device m) (rw (e, k, ← f) refl)
+      (λ refused. rw (left _ _ f (write_same offset value m.irqmp) refused) refl)
 
   pub acknowledge_outcome :
-      (x : irqmp.Answer) → route ≡ Acknowledge → x ≡ irq.acknowledge m.irqmp →
-      Outcome m route (value_answer x.refusal x.value (machine_of (store_irqmp x.controller m))) (store_irqmp x.controller m)
+      (x : own.Answer Irqmp ℕ) → route ≡ Acknowledge → answer_of x ≡ irq.acknowledge m.irqmp →
+      Outcome m route (value_answer (number_in x.outcome) (value_in x.outcome) (machine_of (store_irqmp x.device m))) (store_irqmp x.device m)
   unfolding carried_out
   acknowledge_outcome x e f =
-      core_outcome _ _ (store_irqmp x.controller m) (rw (e, ← f) refl)
-      (rw f (λ refused. rw (acknowledge_same m.irqmp refused) refl))
+      core_outcome _ _ (store_irqmp x.device m) (rw (e, ← f) refl)
+      (λ refused. rw (left _ _ f (acknowledge_same m.irqmp) refused) refl)
 
   pub pass_outcome :
       (span : Span) (x : Elapsed) (d : Irqmp) → route ≡ Pass span → x ≡ pass span m.unit →
-      d ≡ (irq.set_pending (lines_of gr712rc.lines.timers (pulsed x.pulses)) m.irqmp).controller →
+      d ≡ (irq.set_pending (lines_of gr712rc.lines.timers (pulsed x.pulses)) m.irqmp).device →
       (let next : Machine = store_irqmp d (store_unit x.unit m) in
       Outcome m route (span_answer x.cycles x.pulses (machine_of next)) next)
   unfolding carried_out
@@ -171,11 +194,11 @@ module _ (m : Machine) (route : Route) where
       accepted_outcome _ (store_irqmp d (store_unit x.unit m)) (rw (e, passes_unit span (machine_of m), ← f, set-by) refl) refl refl
 
   pub short_outcome :
-      (span : Span) (t : BeforeTick) (cycles scaler : ℕ) → route ≡ Pass span → Tells span m.unit t → t ≡ Yes cycles scaler →
-      (let next : Machine = store_unit (gpt.with_scaler scaler m.unit) m in
-      Outcome m route (span_answer cycles bus.no_pulses (machine_of next)) next)
-  short_outcome span t cycles scaler e tells f =
-      pass_outcome span (counted_down cycles scaler m.unit) m.irqmp e (sym (rw f at tells).1)
+      (span : Span) (t : Option Short) (s : Short) → route ≡ Pass span → Tells span m.unit t → t ≡ Some s →
+      (let next : Machine = store_unit (gpt.with_scaler s.scaler m.unit) m in
+      Outcome m route (span_answer s.cycles bus.no_pulses (machine_of next)) next)
+  short_outcome span t s e tells f =
+      pass_outcome span (counted_down s.cycles s.scaler m.unit) m.irqmp e (sym (rw f at tells).1)
       (sym (rw (quiet_lines gr712rc.lines.timers bus.no_pulses refl) (set_none m.irqmp)))
 
   pub reset_outcome :
@@ -184,7 +207,7 @@ module _ (m : Machine) (route : Route) where
   unfolding carried_out
   reset_outcome next e f = accepted_outcome _ next (rw e (ap (bus.accepted 0) (sym f))) refl refl
 
--- A port that a route names is there, and its place in the code's array, by the size of a port, is a 64-bit number.
+-- A port that a route names is there.
 pub leads_there : (k : machine.Call) (route : Route) → Leads gr712rc k route → port_exists gr712rc.ports route ≡ true
 unfolding gr712rc
 leads_there k route h = h.port_is_there refl
@@ -195,5 +218,3 @@ named_there n c route t e = let l : n < gr712rc.ports = ltb-true n gr712rc.ports
 
 pub port_fits : (n size : ℕ) → n < 6 → 6 * size < 2 ^ 63 → Fits w64 (n * size)
 port_fits n size l k = scaled_Fits n 6 size l k
-
-pub ruleset port_there = (leads_there, named_there, port_fits, lit<)

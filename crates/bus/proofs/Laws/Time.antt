@@ -58,7 +58,7 @@ one_rise (line ∷ lines) (p ∷ ps) (suc n) q l = rw (still p.level) (one_rise 
 
 -- A machine with lines set.
 abbrev set_lines : ℕ → Machine → Machine
-set_lines lines m = with_irqmp (irq.set_pending lines m.irqmp).controller m
+set_lines lines m = with_irqmp (irq.set_pending lines m.irqmp).device m
 
 pub port_step :
     (n : ℕ) (q : Port) (m : Machine) → length m.board.lines.ports ≤ length m.ports →

@@ -1,6 +1,6 @@
 -- The ports of a machine, as the code goes through them. Assumes nothing.
 use Prim.Native.Nat.{ℕ, ◌+◌, ◌*◌, ◌-◌, ◌^◌, ◌≤◌, ◌<◌}
-use mathlib.Core.Path.{◌≡◌, refl, ap, ◌∙◌}
+use mathlib.Core.Path.{◌≡◌, refl}
 use mathlib.Core.Bool.{Bool, true, false, cond, ◌&&◌}
 use mathlib.Core.List.{List, [], ◌∷◌, map}
 use native.Mathlib.Omega.{arith}
@@ -13,7 +13,7 @@ use Rattle.devices.specs.Apbuart as uart
 use Rattle.devices.specs.Apbuart.View.{port_of}
 use Rattle.devices.specs.declared.apbuart.Apbuart.{Apbuart}
 use Rattle.bus.specs.Machine.{all_well, levels_of}
-use Rattle.bus.proofs.Loops.{at_place, at_the_end, none_yet, place_before, all_done}
+use Rattle.bus.proofs.Loops.{at_place, at_the_end, none_yet, place_before}
 
 -- Whether every port is well formed, from each place on.
 abbrev well_ports : List Apbuart → Bool
@@ -23,16 +23,16 @@ module _
     (ps : List Apbuart) (n i : ℕ) (whole : length ps ≡ n)
     (so_far : all_well (map port_of (drop i ps)) ≡ all_well (map port_of ps)) where
   pub well_later :
-      (z : Apbuart) (b : Bool) → i < n → b ≡ uart.well_formed (port_of (get_or ps i z)) → b ≡ true →
+      (z : Apbuart) → i < n → uart.well_formed (port_of (get_or ps i z)) ≡ true →
       all_well (map port_of (drop (i + 1) ps)) ≡ all_well (map port_of ps)
   unfolding all_well
-  well_later z b l e t = rw (← at_place well_ports ps n i whole so_far z l, ← e, t) refl
+  well_later z l t = rw (← at_place well_ports ps n i whole so_far z l, t) refl
 
   pub ill_here :
-      (z : Apbuart) (b : Bool) → i < n → b ≡ uart.well_formed (port_of (get_or ps i z)) → b ≡ false →
+      (z : Apbuart) → i < n → uart.well_formed (port_of (get_or ps i z)) ≡ false →
       (rest : Bool) → false ≡ (all_well (map port_of ps) && rest)
   unfolding all_well
-  ill_here z b l e t rest = rw (← at_place well_ports ps n i whole so_far z l, ← e, t) refl
+  ill_here z l t rest = rw (← at_place well_ports ps n i whole so_far z l, t) refl
 
   pub well_all : n ≤ i → (b rest : Bool) → b ≡ rest → b ≡ (all_well (map port_of ps) && rest)
   unfolding all_well
@@ -79,7 +79,3 @@ pub levels_more :
     x * 2 + bool_byte (get_or ps (i - 1) z).level ≡ levels_of (map port_of (drop (i - 1) ps))
 unfolding levels_of
 levels_more ps n i x z whole l k e = rw (place_before ps n i z whole l k, e, byte_level) (omega arith)
-
-pub levels_all :
-    (ps : List Apbuart) (i x : ℕ) → i ≤ 0 → x ≡ levels_of (map port_of (drop i ps)) → x ≡ levels_of (map port_of ps)
-levels_all ps i x l e = e ∙ ap (λ (qs : List Apbuart). levels_of (map port_of qs)) (all_done ps i l)

@@ -1,5 +1,6 @@
 -- On a well-formed machine a call's answer is that of its route carried out; and a port that a route names is there. Assumes
 -- nothing.
+use Rattle.std.specs.Prelude.{Option, Some, None, Result, Ok, Err, ◌%◌, ◌||◌}
 use Prim.Native.Nat.{ℕ, ◌-◌}
 use mathlib.Core.Path.{◌≡◌, refl, sym, ap, ◌∙◌}
 use mathlib.Core.Bool.{Bool, true, cond, not, and-eq-true_iff}
@@ -9,37 +10,37 @@ use native.Mathlib.Omega.{arith}
 use lib.Dec.{eqb, leb}
 use lib.Seq.{set-get_or}
 use borrow.Author.Tests.{leb-false, lt-ltb}
+use Rattle.devices.specs.declared.irqmp.Irqmp.{Irqmp}
+use Rattle.devices.specs.declared.gptimer.Gptimer.{Gptimer}
 use Rattle.devices.proofs.Laws.Cases.{chosen, tested}
 use Rattle.devices.specs.Refusal.{not_refused, no_register}
 use Rattle.devices.proofs.Laws.Register.{ByOffset}
 use Rattle.devices.specs.Apbuart as uart
 use Rattle.devices.proofs.Laws.Apbuart as port'
-use Rattle.devices.specs.Gptimer as gpt
 use Rattle.devices.proofs.Laws.Gptimer as unit'
-use Rattle.devices.specs.declared.gptimer.Answer as unit
+use Rattle.devices.specs.Answer as devices
 use Rattle.devices.specs.Irqmp as irq
 use Rattle.devices.proofs.Laws.Irqmp as controller'
-use Rattle.devices.specs.declared.irqmp.Answer as controller
-use Rattle.bus.specs.Refusal.{bad_size, no_window, bad_record}
+use Rattle.bus.specs.Refusal.{bad_size, no_window, past_window, misaligned, not_a_word, bad_record}
+use Rattle.bus.specs.declared.refusal.Refusal.{Refusal}
+use Rattle.bus.specs.declared.refusal.Refusal.TheVariants.{BadSize, BadRecord}
 use Rattle.bus.specs.Board.{all_there, is_there, holds, window_at}
 use Rattle.bus.specs.Machine.{Machine, Answer, port_at, with_port, with_unit, with_irqmp}
 use Rattle.bus.specs.Machine.{well_formed, no_pulses, refused, of_port, of_timer_unit, of_controller}
 use Rattle.bus.specs.Time.{step, stepped}
 use Rattle.bus.proofs.Laws.Time.{quiet_step, quiet_answer}
-use Rattle.bus.specs.Call.{◌when◌, is_size, first, rules, access, byte_for, has_register}
+use Rattle.bus.specs.Call.{is_size, runs_past, first, rules, access, byte_for, has_register}
 use Rattle.bus.specs.Call.{read_device, write_device, reach, execute, window_of}
 use Rattle.bus.specs.Call.{subject, answer, refusal}
 use Rattle.bus.proofs.Laws.Call.{answer_executed, answer_refused, well_at, well_ports_lem, well_irqmp}
-use Rattle.bus.proofs.Laws.Call.{first_then, no_port_number, offer_number, other_number}
+use Rattle.bus.proofs.Laws.Call.{no_port_number, offer_number, other_number}
 use Rattle.bus.specs.Route as routes
 use Rattle.bus.specs.Route.{port_called, unit_called, controller_called, carried_out, Leads}
-use Rattle.bus.specs.Private.{window_rules, window_number, read_route, write_route, window_route, access_route, offer_route}
+use Rattle.bus.specs.Private.{judged, unless_refused, read_route, write_route, window_route, access_route, offer_route}
 use Rattle.bus.specs.declared.board.Window.{Window}
 use Rattle.bus.specs.declared.board.Device.{Device}
 use Rattle.bus.specs.declared.board.Device.TheVariants.{Port, TimerUnit, Controller}
 use Rattle.bus.specs.declared.board.Board.{Board}
-use Rattle.bus.specs.declared.board.Found.{Found}
-use Rattle.bus.specs.declared.board.Found.TheVariants.{In, Nowhere}
 use Rattle.bus.specs.declared.machine.Call.{Call}
 use Rattle.bus.specs.declared.machine.Call.TheVariants.{Read, Write, Offer, Advance, Skip, Reset, Acknowledge, Malformed}
 use Rattle.bus.specs.declared.route.Route.{Route}
@@ -56,7 +57,7 @@ route b (Advance cycles) = to.Pass (span.Cycles cycles)
 route b (Skip limit) = to.Pass (span.ToPulse limit)
 route b Reset = to.Reset
 route b Acknowledge = to.Acknowledge
-route b Malformed = Refused bad_record
+route b Malformed = Refused BadRecord
 
 -- What a port answers that does not refuse,
 called : (n : ℕ) (a : uart.Answer) (m : Machine) → a.refusal ≡ not_refused → stepped m (of_port n a m) ≡ port_called n a m
@@ -69,16 +70,16 @@ same_port n k m =
     ap (refused k) (sym (ap (step no_pulses m) stays ∙ quiet_step m m refl))
 
 -- what the timer unit answers that does not refuse,
-united : (a : unit.Answer) (m : Machine) → a.refusal ≡ not_refused → stepped m (of_timer_unit a m) ≡ unit_called a m
-united a m e = quiet_answer a.value m (with_unit a.unit m) refl ∙ rw e refl
+united : (a : devices.Answer Gptimer) (m : Machine) → a.refusal ≡ not_refused → stepped m (of_timer_unit a m) ≡ unit_called a m
+united a m e = quiet_answer a.value m (with_unit a.device m) refl ∙ rw e refl
 
 -- and the controller.
-controlled : (a : controller.Answer) (m : Machine) → a.refusal ≡ not_refused → of_controller a m ≡ controller_called a m
+controlled : (a : devices.Answer Irqmp) (m : Machine) → a.refusal ≡ not_refused → of_controller a m ≡ controller_called a m
 controlled a m e = rw e refl
 
 control_step :
-    (a : controller.Answer) (m : Machine) → a.refusal ≡ not_refused → stepped m (of_controller a m) ≡ controller_called a m
-control_step a m e = quiet_answer a.value m (with_irqmp a.controller m) refl ∙ controlled a m e
+    (a : devices.Answer Irqmp) (m : Machine) → a.refusal ≡ not_refused → stepped m (of_controller a m) ≡ controller_called a m
+control_step a m e = quiet_answer a.value m (with_irqmp a.device m) refl ∙ controlled a m e
 
 -- An access, which a device answers by its offset: at a register what it does is a step, elsewhere it is refused. Once for every
 -- device, by what comes of its answer in the definition and on the route:
@@ -98,13 +99,13 @@ module _ (m : Machine) (has : Bool) where
       (same_port n no_register m)
 
   unit_out :
-      (a : unit.Answer) → ByOffset unit'.Accepted (gpt.refused no_register m.unit) has a →
+      (a : devices.Answer Gptimer) → ByOffset unit'.Accepted (devices.refused no_register m.unit) has a →
       cond has (stepped m (of_timer_unit a m)) (refused no_register m) ≡ unit_called a m
   unit_out a =
       by_register unit'.Accepted _ has a m (λ x. stepped m (of_timer_unit x m)) (λ x. unit_called x m) (united a m) refl
 
   controller_out :
-      (a : controller.Answer) → ByOffset controller'.Accepted (irq.refused no_register m.irqmp) has a →
+      (a : devices.Answer Irqmp) → ByOffset controller'.Accepted (devices.refused no_register m.irqmp) has a →
       cond has (stepped m (of_controller a m)) (refused no_register m) ≡ controller_called a m
   controller_out a =
       by_register controller'.Accepted _ has a m (λ x. stepped m (of_controller x m)) (λ x. controller_called x m)
@@ -139,23 +140,29 @@ module _ (m : Machine) (w : well_formed m ≡ true) where
       (d : Device) (offset : ℕ) →
       cond (has_register d offset) (stepped m (reply d offset)) (refused no_register m) ≡ carried_out (own d offset) m) where
     window_out :
-        (found : Found) → is_size size ≡ true → refusal (subject c m) m ≡ first (rules (access address size found) m) →
+        (found : Option Window) → is_size size ≡ true → refusal (subject c m) m ≡ first (rules (access address size found) m) →
         execute c m ≡ stepped m (reach reply m address found) → answer c m ≡ carried_out (window_route own address size found) m
     unfolding carried_out answer
-    window_out Nowhere sized e f =
+    window_out None sized e f =
         answer_refused c m no_window (sym (e ∙ rw sized refl)) (λ z. absurd (omega arith))
-    window_out (In v) sized e f =
-        let n = window_number address size v in
+    window_out (Some v) sized e f =
         let has = has_register v.device (address - v.base) in
-        let number : refusal (subject c m) m ≡ cond (eqb n not_refused) (first (no_register when not has ∷ [])) n =
-        e ∙ rw sized (first_then (window_rules address size v) (no_register when not has) refl) in
+        let past = runs_past address size (Some v) in
+        let odd = not (eqb (address % size) 0) in
+        let narrow = eqb size 1 || eqb size 2 in
+        let number : refusal (subject c m) m ≡
+        cond past past_window (cond odd misaligned (cond narrow not_a_word (cond (not has) no_register not_refused))) =
+        e ∙ rw sized refl in
         rw (number, f)
-        (tested (eqb n not_refused)
-        (λ z. rw (z, ← out v.device (address - v.base)) (tested has (λ t. rw t refl) (λ t. rw t refl)))
-        (λ z. rw (z, z) refl))
+        (tested past (λ t. rw t refl)
+        (λ t. rw t
+        (tested odd (λ t. rw t refl)
+        (λ t. rw t
+        (tested narrow (λ t. rw t refl)
+        (λ t. rw (t, ← out v.device (address - v.base)) (tested has (λ t. rw t refl) (λ t. rw t refl))))))))
 
     accessed_out :
-        (found : Found) → refusal (subject c m) m ≡ first (rules (access address size found) m) →
+        (found : Option Window) → refusal (subject c m) m ≡ first (rules (access address size found) m) →
         execute c m ≡ stepped m (reach reply m address found) → answer c m ≡ carried_out (access_route own address size found) m
     unfolding carried_out
     accessed_out found e f =
@@ -197,15 +204,15 @@ module _ (m : Machine) (w : well_formed m ≡ true) where
   routed Malformed = answer_refused Malformed m bad_record (rw w refl) (λ z. absurd (omega arith))
 
 -- The window that is found is one of the table's.
-abbrev found_there : ℕ → Found → Bool
-found_there k (In w) = is_there k w.device
-found_there k Nowhere = true
+abbrev found_there : ℕ → Option Window → Bool
+found_there k (Some w) = is_there k w.device
+found_there k None = true
 
 found_there_lem : (k address : ℕ) (ws : List Window) → all_there k ws ≡ true → found_there k (window_at address ws) ≡ true
 found_there_lem k address [] t = refl
 found_there_lem k address (w ∷ ws) t =
     let each = (and-eq-true_iff (is_there k w.device) (all_there k ws)).0 t in
-    chosen (λ b (f : Found). found_there k f ≡ true) (holds address w) (In w) (window_at address ws) each.0
+    chosen (λ b (f : Option Window). found_there k f ≡ true) (holds address w) (Some w) (window_at address ws) each.0
     (found_there_lem k address ws each.1)
 
 module _ (k : ℕ) where
@@ -223,20 +230,23 @@ module _ (k : ℕ) where
       (own : Device → ℕ → Route)
       (own-there : (d : Device) (offset : ℕ) → is_there k d ≡ true → routes.port_exists k (own d offset) ≡ true) where
     window_there :
-        (address size : ℕ) (found : Found) → found_there k found ≡ true →
+        (address size : ℕ) (found : Option Window) → found_there k found ≡ true →
         routes.port_exists k (window_route own address size found) ≡ true
-    window_there address size Nowhere t = refl
-    window_there address size (In w) t =
-        let n = window_number address size w in
-        chosen (λ b (r : Route). routes.port_exists k r ≡ true) (eqb n not_refused) (own w.device (address - w.base))
-        (Refused n) (own-there w.device (address - w.base) t) refl
+    window_there address size None t = refl
+    window_there address size (Some w) t = unless (judged address size w)
+      where
+        unless :
+            (judged : Result (Unit {0}) Refusal) →
+            routes.port_exists k (unless_refused judged (own w.device (address - w.base))) ≡ true
+        unless (Ok nothing) = own-there w.device (address - w.base) t
+        unless (Err refusal) = refl
 
     accessed_there :
         (address size : ℕ) (ws : List Window) → all_there k ws ≡ true →
         routes.port_exists k (access_route own address size (window_at address ws)) ≡ true
     accessed_there address size ws t =
         chosen (λ b (r : Route). routes.port_exists k r ≡ true) (is_size size) (window_route own address size (window_at address ws))
-        (Refused bad_size) (window_there address size (window_at address ws) (found_there_lem k address ws t)) refl
+        (Refused BadSize) (window_there address size (window_at address ws) (found_there_lem k address ws t)) refl
 
 route_there :
     (b : Board) (c : Call) → all_there b.ports b.windows ≡ true → routes.port_exists b.ports (route b c) ≡ true

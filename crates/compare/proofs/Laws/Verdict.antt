@@ -1,6 +1,7 @@
 -- What follows from the definition of a verdict. Assumes nothing.
-use Rattle.std.specs.Prelude.{ℕ, zero, suc, ◌+◌, ◌*◌, ◌%◌, ◌≤◌, ◌≡◌, refl, Bool, true, false, ◌&&◌, List, [], ◌∷◌, ◌++◌, eqb, length, take, drop}
-use Rattle.std.proofs.Common.{sym, ap, ◌∙◌, arith, length-drop, take-add, length-take-le, eqb-true, eq-eqb, le-ltb, lt-ltb}
+use Rattle.std.specs.Prelude.{ℕ, zero, suc, ◌+◌, ◌*◌, ◌%◌, ◌≤◌, ◌≡◌, refl, Bool, true, false, ◌&&◌, List, [], ◌∷◌, ◌++◌, eqb, nat_eq, length, take, drop}
+use Rattle.std.specs.Cmp.Lexicographic.{pointwise}
+use Rattle.std.proofs.Common.{sym, ap, ◌∙◌, arith, length-drop, take-add, length-take-le, take-append-drop, eqb-true, eq-eqb, le-ltb, lt-ltb}
 use Rattle.std.proofs.Math.Bool.{and-eq-true_iff}
 use Rattle.std.proofs.lemmas.Bool.{false≢true, not-false}
 use Rattle.std.proofs.Math.Decide.{dec_lt}
@@ -51,6 +52,22 @@ module _ (m n : ℕ) (a b : List ℕ) (h : m ≤ length a) (k : m ≤ length b) 
       alike (take (m + n) a) (take (m + n) b) ≡ false → alike (take m a) (take m b) ≡ true →
       alike (take n (drop m a)) (take n (drop m b)) ≡ false
   rest_differs e f = rw (alike_split m n a b h k, f) at e
+
+-- Lists that differ, but not in so many bytes that they begin with, differ behind them.
+pub behind_differs :
+    (m : ℕ) (a b : List ℕ) → m ≤ length a → m ≤ length b → alike a b ≡ false → alike (take m a) (take m b) ≡ true →
+    alike (drop m a) (drop m b) ≡ false
+behind_differs m a b h k e f =
+    let joined =
+    alike_append (take m a) (take m b) (drop m a) (drop m b) (length-take-le m a h ∙ sym (length-take-le m b k)) in
+    sym (rw (f, take-append-drop m a, take-append-drop m b, e) at joined)
+
+-- The library's test of two lists of bytes is `alike`.
+pub bytes_alike : (xs ys : List ℕ) → pointwise nat_eq xs ys ≡ alike xs ys
+bytes_alike [] [] = refl
+bytes_alike [] (y ∷ ys) = refl
+bytes_alike (x ∷ xs) [] = refl
+bytes_alike (x ∷ xs) (y ∷ ys) = rw (bytes_alike xs ys) refl
 
 -- Where some fields are alike, none is named.
 pub fields_alike :

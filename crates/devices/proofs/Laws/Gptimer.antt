@@ -9,18 +9,18 @@ use Rattle.std.proofs.Math.Decide.{dec_lt, ℕ_discrete}
 use Rattle.devices.proofs.Laws.Cases.{chosen}
 use Rattle.devices.specs.Refusal.{not_refused, no_register}
 use Rattle.devices.proofs.Laws.Register.{ByOffset, by_offset, otherwise}
-use Rattle.devices.specs.Gptimer.{has_register, refused, read, write}
+use Rattle.devices.specs.Answer.{Answer, refused}
+use Rattle.devices.specs.Gptimer.{has_register, read, write}
 use Rattle.devices.specs.Gptimer.{place, serve, underflows_now, count_underflows, counts_now, count}
 use Rattle.devices.specs.Gptimer.{add_pulses, any_pulse, no_cycle, cycle_then, cycle, cycle_pulses, advance, skip}
 use Rattle.devices.proofs.Laws.Gptimer.Pulses.{adds_assoc, any_add, any_none, none_advance}
 use Rattle.devices.proofs.Laws.Gptimer.Pulses.{at_add, at_none, at_quiet, at_pulses}
 use Rattle.devices.specs.declared.gptimer.Timer.{Timer}
 use Rattle.devices.specs.declared.gptimer.Gptimer.{Gptimer}
-use Rattle.devices.specs.declared.gptimer.Answer.{Answer}
 use Rattle.devices.specs.declared.gptimer.Elapsed.{Elapsed}
 
 -- An access is not refused where the offset has a register, and gets 13 where it has none.
-abbrev pub Accepted : Answer → Type 0
+abbrev pub Accepted : Answer Gptimer → Type 0
 Accepted a = a.refusal ≡ not_refused
 
 pub read_by_offset :
@@ -35,16 +35,16 @@ write_by_offset offset value u = rw (or_assoc, or_assoc, or_assoc) (search by_of
 
 -- A refused access changes nothing, and a read never does.
 pub write_same :
-    (offset value : ℕ) (u : Gptimer) → (Accepted (write offset value u) → ⊥) → (write offset value u).unit ≡ u
+    (offset value : ℕ) (u : Gptimer) → (Accepted (write offset value u) → ⊥) → (write offset value u).device ≡ u
 write_same offset value u differs =
-    ap (λ (a : Answer). a.unit) (otherwise Accepted _ _ _ (write_by_offset offset value u) differs)
+    ap (λ (a : Answer Gptimer). a.device) (otherwise Accepted _ _ _ (write_by_offset offset value u) differs)
 
-pub read_same : (offset : ℕ) (u : Gptimer) → (read offset u).unit ≡ u
+pub read_same : (offset : ℕ) (u : Gptimer) → (read offset u).device ≡ u
 unfolding read
 read_same offset u = search either_left depth 20
   where
-    either_left : (b : Bool) (x y : Answer) → x.unit ≡ u → y.unit ≡ u → (cond b x y).unit ≡ u
-    either_left b x y e f = chosen (λ t (a : Answer). a.unit ≡ u) b x y e f
+    either_left : (b : Bool) (x y : Answer Gptimer) → x.device ≡ u → y.device ≡ u → (cond b x y).device ≡ u
+    either_left b x y e f = chosen (λ t (a : Answer Gptimer). a.device ≡ u) b x y e f
 
 -- Two spans, one after the other.
 abbrev pub consecutive : Elapsed → Elapsed → Elapsed

@@ -17,9 +17,9 @@ use Rattle.devices.specs.Irqmp.{lines_1_to_15, lines_1_to_31, within, may_be_not
 use Rattle.devices.specs.Irqmp.{with_level, with_pending, with_force, with_mask, with_extended, write_register, with_lines}
 use Rattle.devices.specs.Irqmp.{waits, highest, extended_line, or_else, line_taken, take, take12, taken}
 use Rattle.devices.specs.Irqmp.{has_register, read_register}
-use Rattle.devices.specs.Irqmp.{refused, accepted, guarded, read, write, set_pending, acknowledge, reset}
+use Rattle.devices.specs.Answer.{Answer, refused, accepted}
+use Rattle.devices.specs.Irqmp.{guarded, read, write, set_pending, acknowledge, reset}
 use Rattle.devices.specs.declared.irqmp.Irqmp.{Irqmp}
-use Rattle.devices.specs.declared.irqmp.Answer.{Answer}
 
 -- The highest line that passes a test, where two tests agree on the lines looked at, and where no line above k passes.
 pub highest_same : (k : ℕ) (s t : ℕ → Bool) → ((n : ℕ) → 0 < n → n ≤ k → s n ≡ t n) → highest k s ≡ highest k t
@@ -135,9 +135,9 @@ either_well : (b : Bool) (x y : Irqmp) → well_formed x ≡ true → well_forme
 either_well b x y e f = chosen (λ t (d : Irqmp). well_formed d ≡ true) b x y e f
 
 either_left_well :
-    (b : Bool) (x y : Answer) → well_formed x.controller ≡ true → well_formed y.controller ≡ true →
-    well_formed (cond b x y).controller ≡ true
-either_left_well b x y e f = chosen (λ t (a : Answer). well_formed a.controller ≡ true) b x y e f
+    (b : Bool) (x y : Answer Irqmp) → well_formed x.device ≡ true → well_formed y.device ≡ true →
+    well_formed (cond b x y).device ≡ true
+either_left_well b x y e f = chosen (λ t (a : Answer Irqmp). well_formed a.device ≡ true) b x y e f
 
 -- A register that is stored, lines that are set, and lines that are cleared.
 module _ (c : Irqmp) (w : well_formed c ≡ true) where
@@ -183,7 +183,7 @@ module _ (c : Irqmp) (w : well_formed c ≡ true) where
   set_well : (lines : ℕ) → well_formed (with_lines lines c) ≡ true
   set_well lines = pending_is _ (more_within lines_1_to_31 c.pending lines (well_of c w).pendings)
 
-  written_well : (offset value : ℕ) → well_formed (write_register offset value c).controller ≡ true
+  written_well : (offset value : ℕ) → well_formed (write_register offset value c).device ≡ true
   written_well offset value =
       search (either_left_well, level_stored, pending_stored, force_stored, pending_cleared, mask_stored) depth 12
 
@@ -198,39 +198,39 @@ taken_well c w n = search (either_well, take_12_well, take_well)
 
 -- A call neither makes an ill-formed controller nor repairs one.
 keeps :
-    (c : Irqmp) (a : Answer) → (well_formed c ≡ true → well_formed a.controller ≡ true) →
-    well_formed (guarded c a).controller ≡ well_formed c
+    (c : Irqmp) (a : Answer Irqmp) → (well_formed c ≡ true → well_formed a.device ≡ true) →
+    well_formed (guarded c a).device ≡ well_formed c
 keeps c a f = tested (well_formed c) (λ w. rw (w, f w) refl) (λ ill. rw ill ill)
 
 -- A read changes nothing.
-pub read_same : (offset : ℕ) (c : Irqmp) → (read offset c).controller ≡ c
+pub read_same : (offset : ℕ) (c : Irqmp) → (read offset c).device ≡ c
 unfolding read
 read_same offset c = search either_left depth 12
   where
-    either_left : (b : Bool) (x y : Answer) → x.controller ≡ c → y.controller ≡ c → (cond b x y).controller ≡ c
-    either_left b x y e f = chosen (λ t (a : Answer). a.controller ≡ c) b x y e f
+    either_left : (b : Bool) (x y : Answer Irqmp) → x.device ≡ c → y.device ≡ c → (cond b x y).device ≡ c
+    either_left b x y e f = chosen (λ t (a : Answer Irqmp). a.device ≡ c) b x y e f
 
-pub read_keeps : (offset : ℕ) (c : Irqmp) → well_formed (read offset c).controller ≡ well_formed c
+pub read_keeps : (offset : ℕ) (c : Irqmp) → well_formed (read offset c).device ≡ well_formed c
 read_keeps offset c = ap well_formed (read_same offset c)
 
-pub write_keeps : (offset value : ℕ) (c : Irqmp) → well_formed (write offset value c).controller ≡ well_formed c
+pub write_keeps : (offset value : ℕ) (c : Irqmp) → well_formed (write offset value c).device ≡ well_formed c
 unfolding write
 write_keeps offset value c = keeps c (write_register offset value c) (λ w. written_well c w offset value)
 
-pub set_keeps : (lines : ℕ) (c : Irqmp) → well_formed (set_pending lines c).controller ≡ well_formed c
+pub set_keeps : (lines : ℕ) (c : Irqmp) → well_formed (set_pending lines c).device ≡ well_formed c
 unfolding set_pending
 set_keeps lines c = keeps c (accepted 0 (with_lines lines c)) (λ w. set_well c w lines)
 
-pub acknowledge_keeps : (c : Irqmp) → well_formed (acknowledge c).controller ≡ well_formed c
+pub acknowledge_keeps : (c : Irqmp) → well_formed (acknowledge c).device ≡ well_formed c
 unfolding acknowledge
 acknowledge_keeps c = keeps c (accepted (line_taken c) (taken (line_taken c) c)) (λ w. taken_well c w (line_taken c))
 
-pub reset_keeps : (c : Irqmp) → well_formed (reset c).controller ≡ well_formed c
+pub reset_keeps : (c : Irqmp) → well_formed (reset c).device ≡ well_formed c
 unfolding reset well_formed
 reset_keeps c = keeps c (accepted 0 reset_state) (λ w. refl)
 
 -- A well-formed controller refuses an access of an offset without a register, with 13, and no other call.
-abbrev pub Accepted : Answer → Type 0
+abbrev pub Accepted : Answer Irqmp → Type 0
 Accepted a = a.refusal ≡ not_refused
 
 at_offset : (offset : ℕ) (c : Irqmp) → ByOffset Accepted (refused no_register c) (has_register offset) (read_register offset c)
@@ -261,28 +261,28 @@ module _ (c : Irqmp) (w : well_formed c ≡ true) where
 
 -- A refused call changes nothing.
 refused_same :
-    (c : Irqmp) (a : Answer) → ((Accepted a → ⊥) → a.controller ≡ c) → (Accepted (guarded c a) → ⊥) →
-    (guarded c a).controller ≡ c
+    (c : Irqmp) (a : Answer Irqmp) → ((Accepted a → ⊥) → a.device ≡ c) → (Accepted (guarded c a) → ⊥) →
+    (guarded c a).device ≡ c
 refused_same c a same differs = tested (well_formed c) (λ w. rw w (same (rw w at differs))) (λ ill. rw ill refl)
 
 pub write_same :
-    (offset value : ℕ) (c : Irqmp) → (Accepted (write offset value c) → ⊥) → (write offset value c).controller ≡ c
+    (offset value : ℕ) (c : Irqmp) → (Accepted (write offset value c) → ⊥) → (write offset value c).device ≡ c
 unfolding write
 write_same offset value c =
     refused_same c (write_register offset value c)
-    (λ differs. ap (λ (a : Answer). a.controller) (otherwise Accepted _ _ _ (written_at_offset offset value c) differs))
+    (λ differs. ap (λ (a : Answer Irqmp). a.device) (otherwise Accepted _ _ _ (written_at_offset offset value c) differs))
 
-pub acknowledge_same : (c : Irqmp) → (Accepted (acknowledge c) → ⊥) → (acknowledge c).controller ≡ c
+pub acknowledge_same : (c : Irqmp) → (Accepted (acknowledge c) → ⊥) → (acknowledge c).device ≡ c
 unfolding acknowledge
 acknowledge_same c = refused_same c (accepted (line_taken c) (taken (line_taken c) c)) (λ differs. absurd (differs refl))
 
 -- No lines leave the controller as it is, and lines that are set one after the other are set at once.
-pub set_none : (c : Irqmp) → (set_pending 0 c).controller ≡ c
+pub set_none : (c : Irqmp) → (set_pending 0 c).device ≡ c
 unfolding set_pending
 set_none c = rw (or_zero_r c.pending) (tested (well_formed c) (λ w. rw w refl) (λ ill. rw ill refl))
 
 pub set_both :
-    (a b : ℕ) (c : Irqmp) → (set_pending b (set_pending a c).controller).controller ≡ (set_pending (bit_or a b) c).controller
+    (a b : ℕ) (c : Irqmp) → (set_pending b (set_pending a c).device).device ≡ (set_pending (bit_or a b) c).device
 unfolding set_pending
 set_both a b c =
     tested (well_formed c)

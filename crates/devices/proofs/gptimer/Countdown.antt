@@ -50,3 +50,7 @@ module _ (v r j : ℕ) (small : v < 2 ^ 32) where
   end_beyond l =
       let far : 2 ^ 64 - 1 - (v + 1) < (j - 1) * (r + 1) = (div-lt_iff_lt-mul pos).0 l in
       rw (← add-one v, ← add-one r) (omega arith)
+
+pub ruleset restarts = (ends_fit, rest_fits, ended_often, starts_again)
+
+pub ruleset ends = (end_first, periods_fit, end_fits, end_within, end_beyond)

@@ -1,10 +1,9 @@
 -- What the code does in some counts is the direct form. Assumes nothing.
-use Rattle.std.proofs.Common.{◌≡◌, ℕ, suc, ◌+◌, ◌-◌, ◌%◌, ◌^◌, ◌<◌, ◌≤◌, true, false, sym, refl, ap, ◌∙◌}
+use Rattle.std.proofs.Common.{◌≡◌, ℕ, suc, ◌+◌, ◌-◌, ◌%◌, ◌^◌, arith, ◌<◌, ◌≤◌, true, false, sym, refl, ap, ◌∙◌}
 use Rattle.devices.proofs.Laws.Cases.{same}
 use Rattle.devices.specs.Gptimer.{with_counter, with_ip}
 use Rattle.devices.specs.Gptimer.Direct.{periods, standing, stopped, counted, underflow_pulses, counts_in, counted_timer, served_timer}
 use Rattle.devices.proofs.Laws.Gptimer.Direct.Countdown.{stands_first, stands_past}
-use Rattle.devices.proofs.gptimer.Countdown.{no_wrap}
 use Rattle.devices.specs.declared.gptimer.Timer.{Timer}
 use Rattle.devices.specs.declared.gptimer.Served.{Served}
 
@@ -23,11 +22,11 @@ module _ (k : ℕ) (t : Timer) where
   unmoved off = counts_to 0 0 t (sym (same t.ie 0)) (rw off refl)
 
   pub falling :
-      (w : ℕ) → t.en ≡ true → k ≤ t.counter → (w + k) % 2 ^ 32 ≡ t.counter → w < 2 ^ 32 →
-      Counts 0 0 (with_counter w t)
+      t.en ≡ true → k ≤ t.counter → t.counter < 2 ^ 32 →
+      Counts 0 0 (with_counter ((t.counter + (2 ^ 32 - k)) % 2 ^ 32) t)
   unfolding counted
-  falling w on l wrap small =
-      let fell : w ≡ t.counter - k = no_wrap w k t.counter wrap small l in
+  falling on l small =
+      let fell : (t.counter + (2 ^ 32 - k)) % 2 ^ 32 ≡ t.counter - k = omega arith in
       counts_to 0 0 _ (sym (same t.ie 0)) (rw (on, stands_first t.counter t.reload _ _ k l, ← fell) refl)
 
   pub restarting :

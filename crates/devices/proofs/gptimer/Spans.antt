@@ -1,8 +1,10 @@
 -- What the code does with a span, and with the time of a pulse, is the direct form. Assumes nothing.
 use Rattle.std.proofs.Common.{◌≡◌, ℕ, zero, suc, ◌-◌, ◌^◌, ◌<◌, ◌≤◌, min, true, false, cond, ltb, List, [], ◌∷◌, length, sym, refl, ◌∙◌, arith, ltb-true, le-ltb, lt-ltb, ne_eqb}
+use Rattle.std.specs.Prelude.{Option, Some, None}
 use Prim.Native.Nat.compare
 use native.Mathlib.Nat.{suc-sub-suc, sub-zero}
 use Rattle.devices.proofs.Laws.Cases.{same}
+use Rattle.devices.proofs.Laws.Lists.{length_of}
 use Rattle.devices.specs.Gptimer.{place, with_scaler, with_timers, no_pulses, cycle, advance}
 use Rattle.devices.specs.Gptimer.Span.{pass, most, any_tick, counted_down, Tells}
 use Rattle.devices.specs.Gptimer.Direct.{periods, standing, ends_at, counted_timer, served_timer}
@@ -16,8 +18,7 @@ use Rattle.devices.specs.declared.gptimer.Gptimer.{Gptimer}
 use Rattle.devices.specs.declared.gptimer.Elapsed.{Elapsed}
 use Rattle.devices.specs.declared.gptimer.Span.{Span}
 use Rattle.devices.specs.declared.gptimer.Span.TheVariants.{Cycles, ToPulse}
-use Rattle.devices.specs.declared.gptimer.BeforeTick.{BeforeTick}
-use Rattle.devices.specs.declared.gptimer.BeforeTick.TheVariants.{Yes, No}
+use Rattle.devices.specs.declared.gptimer.Short.{Short}
 
 shape : (ts : List Timer) → length ts ≡ 4 → ts ≡ place ts 0 ∷ place ts 1 ∷ place ts 2 ∷ place ts 3 ∷ []
 shape ts whole =
@@ -86,11 +87,11 @@ module _ (u : Gptimer) (span : Span) (n : ℕ) (e : n ≡ most span) where
           skip_advance k u whole (omega arith) ∙ rw limit (counted_down_lem u k whole l)
 
 -- what is told of an advance
-module _ (u : Gptimer) (n : ℕ) (t : BeforeTick) (tells : Tells (Cycles n) u t) where
-  pub told_short : (k v : ℕ) → t ≡ Yes k v → counted_down k v u ≡ advance n u
-  told_short k v e = sym (rw e at tells).1
+module _ (u : Gptimer) (n : ℕ) (t : Option Short) (tells : Tells (Cycles n) u t) where
+  pub told_short : (s : Short) → t ≡ Some s → counted_down s.cycles s.scaler u ≡ advance n u
+  told_short s e = sym (rw e at tells).1
 
-  pub told_long : t ≡ No → u.scaler < n
+  pub told_long : t ≡ None → u.scaler < n
   told_long e = ltb-true u.scaler n (sym (ticks_past n u.scaler u refl) ∙ rw e at tells)
 
 -- a span past it
@@ -157,3 +158,14 @@ step_none ts (suc n) j x none f = absurd (omega arith)
 
 pub step_later : (j d : ℕ) (t : Timer) → d ≡ due j t → 0 < j → 0 < d
 step_later j d t e l = rw e (due_later j t l)
+
+-- What each of the code's functions needs.
+pub ruleset tells = (no_tick, has_tick, ends_before, length_of)
+
+pub ruleset told = (told_short, told_long)
+
+pub ruleset past = (past_tick, standing_small)
+
+pub ruleset comes_to = (by_cycles, to_pulse, length_of)
+
+pub ruleset pulses_at = (first_after, cycle_of, length_of)

@@ -1,12 +1,11 @@
 -- What an advance or a skip means that is given as a value of the code's enum, and what the unit tells of one beforehand.
-use Rattle.std.specs.Prelude.{◌≡◌, ℕ, zero, suc, Bool, true, false, ◌||◌, [], ◌∷◌, ◌==◌}
+use Rattle.std.specs.Prelude.{◌≡◌, ℕ, Option, Some, None, zero, suc, Bool, true, false, ◌||◌, [], ◌∷◌, ◌==◌}
 use Rattle.devices.specs.Gptimer.{advance, skip, cycle, with_scaler}
 use Rattle.devices.specs.declared.gptimer.Gptimer.{Gptimer}
 use Rattle.devices.specs.declared.gptimer.Elapsed.{Elapsed}
 use Rattle.devices.specs.declared.gptimer.Span.{Span}
 use Rattle.devices.specs.declared.gptimer.Span.TheVariants.{Cycles, ToPulse}
-use Rattle.devices.specs.declared.gptimer.BeforeTick.{BeforeTick}
-use Rattle.devices.specs.declared.gptimer.BeforeTick.TheVariants.{Yes, No}
+use Rattle.devices.specs.declared.gptimer.Short.{Short}
 
 abbrev pub pass : Span → Gptimer → Elapsed
 pass (Cycles cycles) u = advance cycles u
@@ -29,6 +28,6 @@ counted_down cycles scaler u =
 
 -- Paper 02, No. 2: "Nine in ten of our advances end before the prescaler reaches its tick." Of every span the unit tells whether
 -- it does, and then what it comes to.
-abbrev pub Tells : Span → Gptimer → BeforeTick → Type 0
-Tells span u (Yes cycles scaler) = (any_tick (most span) u ≡ false) × (pass span u ≡ counted_down cycles scaler u)
-Tells span u No = any_tick (most span) u ≡ true
+abbrev pub Tells : Span → Gptimer → Option Short → Type 0
+Tells span u (Some s) = (any_tick (most span) u ≡ false) × (pass span u ≡ counted_down s.cycles s.scaler u)
+Tells span u None = any_tick (most span) u ≡ true

@@ -3,7 +3,7 @@ use Rattle.std.specs.Prelude.{ℕ, zero, suc, ◌+◌, ◌*◌, ◌^◌, ◌/◌
 use Rattle.std.proofs.Common.{append_assoc, append-nil, arith, zero-add, add-zero, add-suc, add_assoc, div-add-mod', mul_assoc, pow-suc, div-lt_iff_lt-mul, length-append, length-drop, get_or-drop, take-suc}
 use Rattle.std.proofs.Math.Nat.{add-mul-div_right, add-mul-mod_self_right}
 use Rattle.std.proofs.Math.ListN.{get_or-append}
-use Rattle.std.proofs.lemmas.List.{get_or_at}
+use Rattle.std.proofs.lemmas.List.{get_or_at, get_or-take}
 use Rattle.script.specs.Number.{byte, number, encoded}
 
 -- A number keeps to its width.
@@ -34,6 +34,19 @@ number_join at j zero bytes = rw (add-zero j) (omega arith)
 number_join at j (suc k) bytes =
     rw (add-suc j k, number_join at j k bytes, pow-suc, ← mul_assoc (number at j bytes) (256 ^ k) 256, add_assoc at j k)
     (omega arith)
+
+-- The number of some bytes is that of a copy of them.
+pub number_cut :
+    (at count n : ℕ) (bytes : List ℕ) → count ≤ n → number 0 count (take n (drop at bytes)) ≡ number at count bytes
+unfolding number
+number_cut at zero n bytes h = refl
+number_cut at (suc count) n bytes h =
+    rw (
+      number_cut at count n bytes (omega arith),
+      zero-add count,
+      get_or-take n (drop at bytes) count 0 (omega arith),
+      get_or-drop at bytes count 0,
+    ) refl
 
 -- What was encoded is read back.
 number_front :

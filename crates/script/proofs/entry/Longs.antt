@@ -1,12 +1,13 @@
 -- A log record as six numbers of 8 bytes. Assumes nothing.
 use Prim.Native.Nat.{ℕ, ◌+◌, ◌*◌, ◌^◌, ◌≤◌, ◌<◌}
 use mathlib.Core.Path.{◌≡◌, refl, ap, ◌∙◌}
-use mathlib.Core.Bool.{Bool, cond}
+use mathlib.Core.Bool.{Bool, true, false}
 use mathlib.Core.List.{List, [], ◌∷◌, ◌++◌, append_assoc, append-nil}
 use native.Mathlib.Omega.{arith}
 use native.Mathlib.Numerals.{add-one}
 use lib.ListN.{length, take, get_or, length-append}
 use lib.Seq.{take-suc, take_all, length-take-le}
+use Rattle.std.specs.Int.{from_bool}
 use Rattle.bus.specs.Machine as bus
 use Rattle.bus.specs.Machine.{Machine}
 use Rattle.script.specs.Number.{encoded}
@@ -17,19 +18,25 @@ use Rattle.script.specs.Private.{longs, first_long, six_longs}
 use Rattle.script.proofs.Laws.Buffer.{wrote_join}
 
 -- The first 8 bytes as one number.
-pub first_joined :
-    (refusal flag byte levels value : ℕ) (emitted : Bool) → flag ≡ cond emitted 1 0 → flag ≤ 1 → byte < 256 → levels < 256 →
-    value < 2 ^ 32 →
-    encoded 8 ((((refusal * 256 + flag) * 256 + byte) * 256 + levels) * 4294967296 + value) ≡
-    first_long refusal emitted byte levels value
-first_joined refusal flag byte levels value emitted e f b l v =
-    rw (
-      encoded_join 4 4 (((refusal * 256 + flag) * 256 + byte) * 256 + levels) value (omega arith),
-      encoded_join 3 1 ((refusal * 256 + flag) * 256 + byte) levels (omega arith),
-      encoded_join 2 1 (refusal * 256 + flag) byte (omega arith),
-      encoded_join 1 1 refusal flag (omega arith),
-      e,
-    ) refl
+module _ (refusal byte levels value : ℕ) (b : byte < 256) (l : levels < 256) (v : value < 2 ^ 32) where
+  joined :
+      (flag : ℕ) → flag ≤ 1 →
+      encoded 8 ((((refusal * 256 + flag) * 256 + byte) * 256 + levels) * 4294967296 + value) ≡
+      encoded 1 refusal ++ encoded 1 flag ++ encoded 1 byte ++ encoded 1 levels ++ encoded 4 value
+  joined flag bit =
+      rw (
+        encoded_join 4 4 (((refusal * 256 + flag) * 256 + byte) * 256 + levels) value (omega arith),
+        encoded_join 3 1 ((refusal * 256 + flag) * 256 + byte) levels (omega arith),
+        encoded_join 2 1 (refusal * 256 + flag) byte (omega arith),
+        encoded_join 1 1 refusal flag (omega arith),
+      ) refl
+
+  pub first_joined :
+      (emitted : Bool) →
+      encoded 8 ((((refusal * 256 + from_bool emitted) * 256 + byte) * 256 + levels) * 4294967296 + value) ≡
+      first_long refusal emitted byte levels value
+  first_joined true = joined 1 (omega arith)
+  first_joined false = joined 0 (omega arith)
 
 length_longs : (ns : List ℕ) → length (longs ns) ≡ 8 * length ns
 length_longs [] = refl

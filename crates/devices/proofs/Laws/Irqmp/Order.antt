@@ -10,7 +10,8 @@ use Rattle.devices.proofs.Laws.Cases.{chosen, tested}
 use Rattle.devices.specs.Word.{bit, without}
 use Rattle.devices.proofs.Laws.Word.{bit_line, bit_without}
 use Rattle.devices.specs.Irqmp.{well_formed, with_extended, waits, highest, extended_line, reaches, or_else, line_taken}
-use Rattle.devices.specs.Irqmp.{take, take12, accepted, acknowledge}
+use Rattle.devices.specs.Answer.{accepted}
+use Rattle.devices.specs.Irqmp.{take, take12, acknowledge}
 use Rattle.devices.proofs.Laws.Irqmp.{highest_le, highest_passes, highest_above}
 use Rattle.devices.specs.declared.irqmp.Irqmp.{Irqmp}
 
@@ -255,12 +256,12 @@ noting : (n e : ℕ) (c d : Irqmp) → Cleared n c d → Cleared n c (with_exten
 noting n e c d h = record { level = h.level; mask = h.mask; force = h.force; pending = h.pending }
 
 module _ (c : Irqmp) (w : well_formed c ≡ true) where
-  acknowledged : (0 < line_taken c) → (acknowledge c).controller ≡ cond (line_taken c == 12) (take12 c) (take (line_taken c) c)
+  acknowledged : (0 < line_taken c) → (acknowledge c).device ≡ cond (line_taken c == 12) (take12 c) (take (line_taken c) c)
   unfolding acknowledge
   acknowledged l = rw (w, ne_eqb (line_taken c) 0 (λ z. omega arith)) refl
 
   -- Taking changes one bit,
-  pub acknowledge_clears : 0 < line_taken c → Cleared (line_cleared c) c (acknowledge c).controller
+  pub acknowledge_clears : 0 < line_taken c → Cleared (line_cleared c) c (acknowledge c).device
   acknowledge_clears l =
       let low : line_taken c ≤ 15 = (taken_reaches c l).1 in
       let most : extended_line c ≤ 31 = highest_le 31 (extends c) in
@@ -273,7 +274,7 @@ module _ (c : Irqmp) (w : well_formed c ≡ true) where
 
   -- and the number noted where 12 is taken.
   pub acknowledge_notes :
-      0 < line_taken c → (acknowledge c).controller.extended ≡ cond (line_taken c == 12) (extended_line c) c.extended
+      0 < line_taken c → (acknowledge c).device.extended ≡ cond (line_taken c == 12) (extended_line c) c.extended
   acknowledge_notes l =
       rw (acknowledged l)
       (tested (line_taken c == 12) (λ twelve. rw twelve refl)

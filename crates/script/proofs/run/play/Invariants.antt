@@ -1,5 +1,5 @@
 -- The loop over the records: the machine and the log so far are those of the records before its place. Assumes nothing.
-use Rattle.std.proofs.Common.{◌≡◌, ◌-◌, ◌≤◌, length}
+use Rattle.std.proofs.Common.{◌≡◌, length}
 use Rattle.bus.specs.View.{machine_of}
 use Rattle.script.specs.Run.{ran}
 use Rattle.script.specs.Private.{Played}
@@ -7,8 +7,4 @@ use Rattle.script.proofs.run.play.Given as goal
 
 abbrev pub invariant-loop-i : goal.invariant-loop-i
 invariant-loop-i l =
-    (l.i ≤ l.count) × (length l.machine.ports ≡ 6) × (length l.log ≡ length l.fn.log) ×
-    Played (ran l.i l.script l.fn.log (machine_of l.fn.machine)) l.machine l.log
-
-abbrev pub decreases-loop-i : goal.decreases-loop-i
-decreases-loop-i l = l.count - l.i
+    (length l.log ≡ length l.fn.log) × Played (ran l.i l.script l.fn.log (machine_of l.fn.machine)) l.machine l.log

@@ -6,6 +6,3 @@ use Rattle.bus.proofs.board.Board.window_at.Given as goal
 abbrev pub invariant-loop-i : goal.invariant-loop-i
 invariant-loop-i l =
     (length l.self.windows ≡ 8) × (l.i ≤ 8) × (l.found ≡ window_at l.address (drop l.i l.self.windows))
-
-abbrev pub decreases-loop-i : goal.decreases-loop-i
-decreases-loop-i l = l.i

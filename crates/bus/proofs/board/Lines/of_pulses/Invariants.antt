@@ -7,6 +7,3 @@ abbrev pub invariant-loop-i : goal.invariant-loop-i
 invariant-loop-i l =
     (length l.self.timers ≡ 4) × (length l.pulses ≡ 4) × (l.i ≤ 4) ×
     (l.lines ≡ lines_of (drop l.i l.self.timers) (pulsed (drop l.i l.pulses)))
-
-abbrev pub decreases-loop-i : goal.decreases-loop-i
-decreases-loop-i l = l.i

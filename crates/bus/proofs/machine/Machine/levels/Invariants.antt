@@ -7,6 +7,3 @@ use Rattle.bus.proofs.machine.Machine.levels.Given as goal
 abbrev pub invariant-loop-i : goal.invariant-loop-i
 invariant-loop-i l =
     (length l.self.ports ≡ 6) × (l.i ≤ 6) × (l.levels ≡ levels_of (map port_of (drop l.i l.self.ports)))
-
-abbrev pub decreases-loop-i : goal.decreases-loop-i
-decreases-loop-i l = l.i

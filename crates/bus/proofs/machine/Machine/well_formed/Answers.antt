@@ -1,13 +1,18 @@
 -- Of each port: as the test says. Assumes nothing.
-use Rattle.std.proofs.Common.{rules}
+use Rattle.std.proofs.Common.{sym, ◌∙◌, rules}
+use Rattle.devices.proofs.Laws.Lists.{length_of}
 use Rattle.bus.proofs.machine.Ports.{well_later, ill_here, well_all}
 use Rattle.bus.proofs.machine.Machine.well_formed.Goals as goal
 
-pub loop-i-preserved : goal.loop-i-preserved
-loop-i-preserved c = (search rules, search well_later)
+pub loop-port-preserved : goal.loop-port-preserved
+loop-port-preserved c =
+    well_later _ _ _ (search (length_of, rules)) c.loop-port.invariant _ c.loop-port-test.true
+    (sym c.well_formed-in-loop-port.ensures ∙ c.if-not-well_formed.false)
 
-pub returns-else-well_formed : goal.returns-else-well_formed
-returns-else-well_formed c = search ill_here
+pub returns-then-not-well_formed : goal.returns-then-not-well_formed
+returns-then-not-well_formed c =
+    ill_here _ _ _ (search (length_of, rules)) c.loop-port.invariant _ c.loop-port-test.true
+    (sym c.well_formed-in-loop-port.ensures ∙ c.if-not-well_formed.true) _
 
 pub returns : goal.returns
-returns c = search well_all
+returns c = well_all _ _ _ (search (length_of, rules)) c.loop-port.invariant c.loop-port-test.false _ _ c.well_formed-2.ensures

@@ -7,8 +7,8 @@ use Rattle.devices.proofs.gptimer.Gptimer.due_tick.Goals as goal
 pub returns-then-not-timer : goal.returns-then-not-timer
 returns-then-not-timer c = search (step_free, not-true)
 
-pub loop-at-preserved : goal.loop-at-preserved
-loop-at-preserved c = search (step_chained, step_later, not-false, rules)
+pub loop-place-preserved : goal.loop-place-preserved
+loop-place-preserved c = search (step_chained, step_later, not-false, rules)
 
 pub returns : goal.returns
 returns c = search step_none

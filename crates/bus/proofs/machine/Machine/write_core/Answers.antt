@@ -1,0 +1,9 @@
+-- By their laws. Assumes nothing.
+use Rattle.bus.proofs.Laws.Route.{carries_out, unit_write_outcome, controller_write_outcome}
+use Rattle.bus.proofs.machine.Machine.write_core.Goals as goal
+
+pub returns-in-TimerUnit : goal.returns-in-TimerUnit
+returns-in-TimerUnit c = search (carries_out, unit_write_outcome)
+
+pub returns-in-Controller : goal.returns-in-Controller
+returns-in-Controller c = search (carries_out, controller_write_outcome)
