@@ -275,7 +275,8 @@ fn end_other(
     }
 }
 
-// Moves what lies between `from` and `to` to the start, and answers how much that is.
+// Moves what lies between `from` and `to` to the start, and answers how much that is. (Here and above two places and no struct: the window
+// is lent for one call.)
 fn keep(window: &mut [u8], from: usize, to: usize) -> usize
     requires from_le_to { from ≤ to }
     requires to_in_bounds { to ≤ length window.old }

@@ -33,13 +33,13 @@ write_route value device.TimerUnit offset = Write offset value core.TimerUnit
 write_route value device.Controller offset = Write offset value core.Controller
 
 -- that of an access: 1, then 2, then 3 to 5, then the device of the window
-abbrev pub unless_refused : Result (Unit {0}) Refusal → Route → Route
-unless_refused (Ok nothing) route = route
-unless_refused (Err refusal) route = Refused refusal
+abbrev pub own_unless : Result (Unit {0}) Refusal → Route → Route
+own_unless (Ok nothing) route = route
+own_unless (Err refusal) route = Refused refusal
 
 abbrev pub window_route : (Device → ℕ → Route) → (address size : ℕ) → Option Window → Route
 window_route own address size None = Refused NoWindow
-window_route own address size (Some w) = unless_refused (judged address size w) (own w.device (address - w.base))
+window_route own address size (Some w) = own_unless (judged address size w) (own w.device (address - w.base))
 
 abbrev pub access_route : (Device → ℕ → Route) → (address size : ℕ) → Option Window → Route
 access_route own address size found = cond (is_size size) (window_route own address size found) (Refused BadSize)

@@ -48,22 +48,14 @@ impl Window {
     pub(crate) fn holds(self, address: u32) -> bool
         ensures { result ≡ board.holds address self }
     {
-        if self.base <= address {
-            (address as u64) < self.end()
-        } else {
-            false
-        }
+        self.base <= address && (address as u64) < self.end()
     }
 
     // An address's offset in the window. No address that was found in it lies below its base.
     pub(crate) fn offset(self, address: u32) -> u32
         ensures { result ≡ address - self.base }
     {
-        if self.base <= address {
-            address - self.base
-        } else {
-            0
-        }
+        address.saturating_sub(self.base)
     }
 }
 
@@ -121,7 +113,7 @@ impl Board {
     };
 
     // The window that an address lies in. From the last window to the first, without a way out of the loop: the compiler then needs no
-    // jump for it.
+    // jump for it. (By places: over the windows turned round the proof stayed open.)
     pub(crate) fn window_at(self, address: u32) -> Option<Window>
         ensures { result ≡ board.window_at address self.windows }
     {
@@ -141,7 +133,8 @@ impl Lines {
 
     pub const TIMERS: usize = 4;
 
-    // The lines of the timers that had a pulse. From the last timer to the first, as the definition joins them.
+    // The lines of the timers that had a pulse. From the last timer to the first, as the definition joins them; by places, since with
+    // `zip` turned round the proof stayed open.
     pub(crate) fn of_pulses(self, pulses: [u64; Lines::TIMERS]) -> u32
         ensures { result ≡ time.lines_of self.timers (time.pulsed pulses) }
     {

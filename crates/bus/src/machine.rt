@@ -1,11 +1,12 @@
 // The machine, six serial ports, a timer unit and an interrupt controller, as a state by value, and the calls on it. Each public
 // call answers what `specs/Machine.antt` and `specs/Call.antt` define, whatever the machine and the arguments.
 ghost use Rattle.std.specs.Prelude.{◌≡◌, ◌<◌, true, cond, get_or};
+ghost use Rattle.devices.specs.Answer.View.{number_in, value_in};
 ghost use Rattle.devices.specs.Irqmp as irq;
 ghost use Rattle.bus.specs.Machine as bus;
 ghost use Rattle.bus.specs.Board.{gr712rc};
 ghost use Rattle.bus.specs.Time as time;
-ghost use Rattle.bus.specs.Route.{port_exists, Leads};
+ghost use Rattle.bus.specs.Route.{port_exists, replied, value_answer, Leads};
 ghost use Rattle.bus.specs.View.{machine_of, Conforms, CarriesOut};
 ghost use Rattle.bus.specs.declared.machine.Call.TheVariants as calls;
 ghost use Rattle.bus.specs.declared.route.Route.{Route};
@@ -82,12 +83,7 @@ impl Machine {
     pub fn well_formed(self) -> bool
         ensures { result ≡ bus.well_formed (machine_of self) }
     {
-        for port in &self.ports {
-            if !port.well_formed() {
-                return false;
-            }
-        }
-        self.irqmp.well_formed()
+        self.ports.iter().all(|port| port.well_formed()) && self.irqmp.well_formed()
     }
 
     // The line levels as they are, bit p for port p.
@@ -95,6 +91,7 @@ impl Machine {
         ensures { result ≡ bus.levels (machine_of self) }
     {
         let mut levels = 0;
+        // By places: over the ports themselves, turned round, the proof of the sum stayed open.
         for i in (0..Self::PORTS).rev() {
             levels = levels * 2 + self.ports[i].level as u8;
         }
@@ -288,16 +285,8 @@ impl Machine {
         ensures { CarriesOut (to.Write offset value core) self.old result self.new }
     {
         match core {
-            Core::TimerUnit => {
-                let answer = self.unit.write(offset, value);
-                self.unit = answer.device;
-                Reply::of_access(&answer)
-            }
-            Core::Controller => {
-                let answer = self.irqmp.write(offset, value);
-                self.irqmp = answer.device;
-                Reply::of_access(&answer)
-            }
+            Core::TimerUnit => stored(self.unit.write(offset, value), &mut self.unit),
+            Core::Controller => stored(self.irqmp.write(offset, value), &mut self.irqmp),
         }
     }
 
@@ -306,9 +295,7 @@ impl Machine {
     fn take_line(&mut self) -> Reply
         ensures { CarriesOut to.Acknowledge self.old result self.new }
     {
-        let answer = self.irqmp.acknowledge();
-        self.irqmp = answer.device;
-        Reply::of_access(&answer)
+        stored(self.irqmp.acknowledge(), &mut self.irqmp)
     }
 
     // A span that goes past the next tick: the lines of the timers that pulsed in it are pending.
@@ -321,4 +308,14 @@ impl Machine {
         self.irqmp = Self::after_pulses(elapsed.pulses, self.irqmp);
         Reply::of_span(elapsed.cycles, elapsed.pulses)
     }
+}
+
+// What a device answered is stored in its place, and replied.
+#[inline(always)]
+fn stored<D: Copy>(answer: devices::answer::Answer<D>, place: &mut D) -> Reply
+    ensures place { place.new ≡ answer.device }
+    ensures reply { replied result ≡ value_answer (number_in answer.outcome) (value_in answer.outcome) }
+{
+    *place = answer.device;
+    Reply::of_access(&answer)
 }

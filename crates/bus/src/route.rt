@@ -95,6 +95,7 @@ impl Route {
         }
     }
 
+    // (A function for each kind of access: one for both would take its cases as closures.)
     fn read_device(device: Device, offset: u32) -> Self
         ensures { result ≡ private.read_route device offset }
     {

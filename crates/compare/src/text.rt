@@ -45,7 +45,8 @@ impl Text {
         self
     }
 
-    // The digits of a number's tenth come before its last one.
+    // The digits of a number's tenth come before its last one. (By hand: the library promises the text of a number only in a String, and
+    // no heap is used here.)
     #[tactic(auto, using(crate::proofs::text::Digits::digit_by_digit))]
     pub(crate) fn put_decimal(self, n: u64) -> Self
         requires { length self + length (decimal n) ≤ 39 }

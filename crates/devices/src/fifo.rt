@@ -1,5 +1,5 @@
 // The receive queue of a serial port: a ring of DEPTH places, by value. Only the port calls it. (With `pop(&mut self) -> Option<u8>` a
-// record of a run took 5 instructions more, and a run 4 in a hundred longer.)
+// record of a run took 5 instructions more, and a run 5 in a hundred longer.)
 ghost use Rattle.std.specs.Prelude.{◌≡◌, ◌<◌, [], ◌∷◌, ◌++◌, length};
 ghost use Rattle.devices.specs.Apbuart.{depth, oldest, younger};
 ghost use Rattle.devices.specs.Fifo.{queued};

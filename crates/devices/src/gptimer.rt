@@ -403,7 +403,6 @@ impl Gptimer {
     }
 
     // The unit after some ticks, and the pulses in them; `cycles` is only passed on.
-
     fn tick(mut self, cycles: u64, ticks: u64) -> Elapsed
         ensures { result ≡ direct.ticked cycles ticks self }
     {
@@ -445,7 +444,7 @@ impl Gptimer {
         }
     }
 
-    // The cycle of the next pulse. Times count from 1; here and below u64::MAX stands for one that never comes, or not before then.
+    // The cycle of the next pulse. Times count from 1; here, above and below u64::MAX stands for one that never comes, or not before then.
     // (No Option: the laws of these functions speak of that number, which is also the longest limit, and of minima.)
     #[tactic(auto, using(crate::proofs::gptimer::Spans::pulses_at))]
     fn next_pulse(self) -> u64
@@ -481,6 +480,7 @@ impl Gptimer {
         ensures { result ≡ direct.due_tick self.timers n j }
     {
         let mut due = j;
+        // By places: with `iter().rev()` over the timers the proof of the call stayed open.
         for place in (0..n).rev() {
             let timer = self.timers[place];
             due = timer.due(due);
@@ -515,14 +515,10 @@ fn ends_at(value: u32, reload: u32, j: u64) -> u64
     ensures { result ≡ direct.ends_at value reload j }
 {
     let first = value as u64 + 1;
-    // The most frequent question, answered without a division.
+    // The most frequent question, answered without a product.
     if j == 1 {
         return first;
     }
     let period = reload as u64 + 1;
-    let again = j - 1;
-    if (u64::MAX - first) / period < again {
-        return u64::MAX;
-    }
-    first + again * period
+    first.saturating_add(period.saturating_mul(j - 1))
 }

@@ -90,7 +90,8 @@ pub fn log_header() -> [u8; Format::HEADER]
     Format::LOG.header()
 }
 
-// What is written in place of a log: the refusal's number, in two digits.
+// What is written in place of a log: the refusal's number, in two digits. (By hand: the library promises the text of a number only in a
+// String, and no heap is used here.)
 pub fn refusal_line(reason: Reason) -> [u8; 11]
     ensures { result ≡ format.refusal_line (format.number_of reason) }
 {

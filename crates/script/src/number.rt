@@ -1,4 +1,4 @@
-// Big-endian numbers in lent bytes.
+// Big-endian numbers in lent bytes, a function for each width: the library has no trait over them.
 ghost use Rattle.std.specs.Prelude.{◌≡◌, ◌+◌, ◌≤◌, length};
 ghost use Rattle.script.specs.Number as big;
 ghost use Rattle.script.specs.Buffer.{wrote};

@@ -47,6 +47,7 @@ impl TryFrom<u8> for Kind {
 // The numbers in a record, by their places.
 #[derive(Clone, Copy)]
 struct Fields {
+    // Any byte: `Kind::try_from` judges it.
     kind: u8,
     byte_1: u8,
     byte_2: u8,
@@ -99,6 +100,7 @@ impl Fields {
         }
     }
 
+    // Each line of the table has its own blanks, and so a function of its own.
     fn read(self) -> Call
         ensures { result ≡ scripts.call_on (scripts.read_line self) }
     {

@@ -19,7 +19,8 @@ use devices::refusal::Refusal;
 // What a run answers.
 #[derive(Clone, Copy)]
 pub struct Ran {
-    // The refusal number of the whole run, as in `bus::machine::Answer`; NOT_REFUSED where it was not refused.
+    // The refusal number of the whole run; NOT_REFUSED where it was not refused. (It stands beside the count, and no Result is in their
+    // place, since of a refused run too the claims say how many records it did.)
     pub refusal: u8,
     // How many records it did: as many stand in the log.
     pub done: usize,
@@ -75,6 +76,7 @@ fn play(machine: Machine, script: &[u8], log: &mut [u8], count: usize) -> Machin
     ensures { Played (runs.ran count script.now log.old (bus.machine_of machine)) result log.new }
 {
     let mut machine = machine;
+    // By places: over the script's chunks a record takes 12 instructions more, and of mutable chunks of the log the library says too little.
     for i in 0..count {
         let at = entry::LENGTH * i;
         let call = decode(record_at(script, i));

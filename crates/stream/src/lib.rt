@@ -42,7 +42,8 @@ pub fn fill<R: Read, E: Write>(
     Err(Failed { count })
 }
 
-// Reads until the buffer is full, the input ends or a read fails. How many bytes it put at the buffer's start.
+// Reads until the buffer is full, the input ends or a read fails, an interrupted one too, and says nothing. How many bytes it put at the
+// buffer's start: a count of bytes that came, which no `for` has.
 pub fn read_full(input: &mut impl Read, buffer: &mut [u8]) -> usize
     ensures { result ≤ length buffer.new }
 {

@@ -1,42 +1,26 @@
 -- The ports of a machine, as the code goes through them. Assumes nothing.
 use Prim.Native.Nat.{ℕ, ◌+◌, ◌*◌, ◌-◌, ◌^◌, ◌≤◌, ◌<◌}
 use mathlib.Core.Path.{◌≡◌, refl}
-use mathlib.Core.Bool.{Bool, true, false, cond, ◌&&◌}
+use mathlib.Core.Bool.{Bool, true, false, cond}
 use mathlib.Core.List.{List, [], ◌∷◌, map}
 use native.Mathlib.Omega.{arith}
 use native.Mathlib.Nat.{pow-suc, pow-le-pow_right}
 use lib.ListN.{length, get_or, drop, length-map, length-drop}
 use mir.Syntax.{w8}
 use mir.Val.{bool_byte, Fits}
+use Rattle.std.specs.List.{list_all}
 use Rattle.devices.proofs.Laws.Cases.{chosen}
 use Rattle.devices.specs.Apbuart as uart
 use Rattle.devices.specs.Apbuart.View.{port_of}
 use Rattle.devices.specs.declared.apbuart.Apbuart.{Apbuart}
 use Rattle.bus.specs.Machine.{all_well, levels_of}
-use Rattle.bus.proofs.Loops.{at_place, at_the_end, none_yet, place_before}
+use Rattle.bus.proofs.Loops.{none_yet, place_before}
 
--- Whether every port is well formed, from each place on.
-abbrev well_ports : List Apbuart → Bool
-well_ports ps = all_well (map port_of ps)
-
-module _
-    (ps : List Apbuart) (n i : ℕ) (whole : length ps ≡ n)
-    (so_far : all_well (map port_of (drop i ps)) ≡ all_well (map port_of ps)) where
-  pub well_later :
-      (z : Apbuart) → i < n → uart.well_formed (port_of (get_or ps i z)) ≡ true →
-      all_well (map port_of (drop (i + 1) ps)) ≡ all_well (map port_of ps)
-  unfolding all_well
-  well_later z l t = rw (← at_place well_ports ps n i whole so_far z l, t) refl
-
-  pub ill_here :
-      (z : Apbuart) → i < n → uart.well_formed (port_of (get_or ps i z)) ≡ false →
-      (rest : Bool) → false ≡ (all_well (map port_of ps) && rest)
-  unfolding all_well
-  ill_here z l t rest = rw (← at_place well_ports ps n i whole so_far z l, t) refl
-
-  pub well_all : n ≤ i → (b rest : Bool) → b ≡ rest → b ≡ (all_well (map port_of ps) && rest)
-  unfolding all_well
-  well_all l b rest e = rw (← at_the_end well_ports ps n i whole so_far l) e
+-- Whether every port is well formed, as one test of each.
+pub all_listed : (ps : List Apbuart) → all_well (map port_of ps) ≡ list_all (λ p. uart.well_formed (port_of p)) ps
+unfolding all_well
+all_listed [] = refl
+all_listed (p ∷ ps) = rw (all_listed ps) refl
 
 -- The line levels, from the last port down.
 byte_level : (b : Bool) → bool_byte b ≡ cond b 1 0

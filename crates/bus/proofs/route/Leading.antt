@@ -36,7 +36,7 @@ use Rattle.bus.proofs.Laws.Call.{answer_executed, answer_refused, well_at, well_
 use Rattle.bus.proofs.Laws.Call.{no_port_number, offer_number, other_number}
 use Rattle.bus.specs.Route as routes
 use Rattle.bus.specs.Route.{port_called, unit_called, controller_called, carried_out, Leads}
-use Rattle.bus.specs.Private.{judged, unless_refused, read_route, write_route, window_route, access_route, offer_route}
+use Rattle.bus.specs.Private.{judged, own_unless, read_route, write_route, window_route, access_route, offer_route}
 use Rattle.bus.specs.declared.board.Window.{Window}
 use Rattle.bus.specs.declared.board.Device.{Device}
 use Rattle.bus.specs.declared.board.Device.TheVariants.{Port, TimerUnit, Controller}
@@ -237,7 +237,7 @@ module _ (k : ℕ) where
       where
         unless :
             (judged : Result (Unit {0}) Refusal) →
-            routes.port_exists k (unless_refused judged (own w.device (address - w.base))) ≡ true
+            routes.port_exists k (own_unless judged (own w.device (address - w.base))) ≡ true
         unless (Ok nothing) = own-there w.device (address - w.base) t
         unless (Err refusal) = refl
 

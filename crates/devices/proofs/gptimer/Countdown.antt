@@ -1,5 +1,6 @@
 -- What the code does with a countdown is the direct form. Assumes nothing.
-use Rattle.std.proofs.Common.{◌≡◌, ℕ, suc, ◌+◌, ◌-◌, ◌*◌, ◌/◌, ◌%◌, ◌^◌, ◌<◌, ◌≤◌, refl, mod-lt, div-lt_iff_lt-mul, le-div_iff_mul-le, div-le_self, add-one, one-add, arith}
+use Rattle.std.proofs.Common.{◌≡◌, ℕ, suc, ◌+◌, ◌-◌, ◌*◌, ◌/◌, ◌%◌, ◌^◌, ◌<◌, ◌≤◌, refl, mod-lt, div-lt_iff_lt-mul, le-div_iff_mul-le, div-le_self, add-one, one-add, arith, mul_comm}
+use Rattle.std.specs.Prelude.{min}
 use Rattle.devices.specs.Gptimer.Direct.{periods, standing, ends_at}
 
 -- a wrapping subtraction of what is no more
@@ -29,28 +30,14 @@ module _ (v r j : ℕ) (small : v < 2 ^ 32) where
   unfolding ends_at
   end_first one = rw one (omega arith)
 
-  pos : 0 < r + 1
-  pos = omega arith
-
-  ends_left : j - 1 ≤ (2 ^ 64 - 1 - (v + 1)) / (r + 1) → (j - 1) * (r + 1) ≤ 2 ^ 64 - 1 - (v + 1)
-  ends_left l = (le-div_iff_mul-le pos).0 l
-
-  pub periods_fit : j - 1 ≤ (2 ^ 64 - 1 - (v + 1)) / (r + 1) → (j - 1) * (r + 1) < 2 ^ 64
-  periods_fit l = omega (arith, ends_left l)
-
-  pub end_fits : j - 1 ≤ (2 ^ 64 - 1 - (v + 1)) / (r + 1) → v + 1 + (j - 1) * (r + 1) < 2 ^ 64
-  end_fits l = omega (arith, ends_left l)
-
-  pub end_within : j - 1 ≤ (2 ^ 64 - 1 - (v + 1)) / (r + 1) → v + 1 + (j - 1) * (r + 1) ≡ ends_at v r j
+  pub end_saturated :
+      (p e : ℕ) → p ≡ min ((r + 1) * (j - 1)) (2 ^ 64 - 1) → e ≡ min (v + 1 + p) (2 ^ 64 - 1) → e ≡ ends_at v r j
   unfolding ends_at
-  end_within l = rw (← add-one v, ← add-one r) (omega (arith, ends_left l))
-
-  pub end_beyond : (2 ^ 64 - 1 - (v + 1)) / (r + 1) < j - 1 → 2 ^ 64 - 1 ≡ ends_at v r j
-  unfolding ends_at
-  end_beyond l =
-      let far : 2 ^ 64 - 1 - (v + 1) < (j - 1) * (r + 1) = (div-lt_iff_lt-mul pos).0 l in
-      rw (← add-one v, ← add-one r) (omega arith)
+  end_saturated p e q h =
+      let same : (r + 1) * (j - 1) ≡ (j - 1) * (r + 1) = mul_comm (r + 1) (j - 1) in
+      let product : p ≡ min ((j - 1) * (r + 1)) (2 ^ 64 - 1) = rw (← same) q in
+      rw (← add-one v, ← add-one r) (omega (arith, product, h))
 
 pub ruleset restarts = (ends_fit, rest_fits, ended_often, starts_again)
 
-pub ruleset ends = (end_first, periods_fit, end_fits, end_within, end_beyond)
+pub ruleset ends = (end_first, end_saturated)

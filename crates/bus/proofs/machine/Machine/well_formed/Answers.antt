@@ -1,18 +1,21 @@
--- Of each port: as the test says. Assumes nothing.
-use Rattle.std.proofs.Common.{sym, ◌∙◌, rules}
-use Rattle.devices.proofs.Laws.Lists.{length_of}
-use Rattle.bus.proofs.machine.Ports.{well_later, ill_here, well_all}
+-- The ports, as the chain goes through them, and the controller. Assumes nothing.
+use Rattle.std.proofs.Common.{◌≡◌, refl, rules}
+use Rattle.std.specs.List.{list_all}
+use Rattle.std.proofs.lemmas.Iterator.Search.{all_from_yields_List}
+use Rattle.std.proofs.lemmas.Iterator.{YieldsList-from_slice}
+use Rattle.devices.specs.Apbuart as uart
+use Rattle.devices.specs.Apbuart.View.{port_of}
+use Rattle.bus.proofs.machine.Ports.{all_listed}
 use Rattle.bus.proofs.machine.Machine.well_formed.Goals as goal
 
-pub loop-port-preserved : goal.loop-port-preserved
-loop-port-preserved c =
-    well_later _ _ _ (search (length_of, rules)) c.loop-port.invariant _ c.loop-port-test.true
-    (sym c.well_formed-in-loop-port.ensures ∙ c.if-not-well_formed.false)
+pub returns-then-all : goal.returns-then-all
+returns-then-all c =
+    let all : c.all.result ≡ list_all (λ p. uart.well_formed (port_of p)) c.args.self.ports =
+    all_from_yields_List _ _ _ c.all.result c.all.ensures.ran (YieldsList-from_slice c.args.self.ports cc) (λ x b q k. search rules) in
+    rw (all_listed, ← all, c.if-all.true) c.well_formed-then-all.ensures
 
-pub returns-then-not-well_formed : goal.returns-then-not-well_formed
-returns-then-not-well_formed c =
-    ill_here _ _ _ (search (length_of, rules)) c.loop-port.invariant _ c.loop-port-test.true
-    (sym c.well_formed-in-loop-port.ensures ∙ c.if-not-well_formed.true) _
-
-pub returns : goal.returns
-returns c = well_all _ _ _ (search (length_of, rules)) c.loop-port.invariant c.loop-port-test.false _ _ c.well_formed-2.ensures
+pub returns-else-all : goal.returns-else-all
+returns-else-all c =
+    let all : c.all.result ≡ list_all (λ p. uart.well_formed (port_of p)) c.args.self.ports =
+    all_from_yields_List _ _ _ c.all.result c.all.ensures.ran (YieldsList-from_slice c.args.self.ports cc) (λ x b q k. search rules) in
+    rw (all_listed, ← all, c.if-all.false) refl
