@@ -4,7 +4,7 @@
 // no argument: where there is one, it says how it is used and reads nothing.
 #![tactic(auto)]
 
-ghost use Rattle.std.specs.Prelude.{IfOk};
+ghost use Rattle.std.specs.Prelude.{IfOk, IfErr};
 ghost use Rattle.stream.specs.Counts.{IsPrefixLen};
 
 use bus::machine::Machine;
@@ -89,7 +89,8 @@ fn run(rt: &HostRuntime) {
 }
 
 fn fill(rt: &HostRuntime, buffer: &mut [u8]) -> Result<usize, Failed>
-    ensures { IfOk result (λ count. IsPrefixLen count buffer.new) }
+    ensures ok { IfOk result (λ count. IsPrefixLen count buffer.new) }
+    ensures err { IfErr result (λ failed. IsPrefixLen failed.count buffer.new) }
 {
     stream::fill(&mut rt.stdin(), b"apsrun: stdin", buffer, &mut rt.stderr())
 }

@@ -1,7 +1,12 @@
 -- What functions of the crate that are not public promise; no public contract cites this.
-use Rattle.std.specs.Prelude.{ℕ, ◌-◌, ◌%◌, cond, not, ◌||◌, ◌==◌, nat_le, Option, Some, None, Result, Ok, Err}
+use Rattle.std.specs.Prelude.{ℕ, ◌≡◌, ◌-◌, ◌%◌, cond, not, ◌||◌, ◌==◌, nat_le, Option, Some, None, Result, Ok, Err}
 use Rattle.devices.specs.declared.apbuart.Call.TheVariants as port
+use Rattle.devices.specs.Refusal.{not_refused}
 use Rattle.bus.specs.Call.{is_size, runs_past}
+use Rattle.bus.specs.Route.{replied, carried_out}
+use Rattle.bus.specs.View.{machine_of}
+use Rattle.bus.specs.declared.machine.Machine.{Machine}
+use Rattle.bus.specs.declared.reply.Reply.{Reply}
 use Rattle.bus.specs.declared.refusal.Refusal.{Refusal}
 use Rattle.bus.specs.declared.refusal.Refusal.TheVariants.{BadSize, NoWindow, PastWindow, Misaligned, NotAWord, NoPort}
 use Rattle.bus.specs.declared.board.Device.{Device}
@@ -46,3 +51,9 @@ access_route own address size found = cond (is_size size) (window_route own addr
 
 abbrev pub offer_route : Board → ℕ → ℕ → Route
 offer_route b n byte = cond (nat_le b.ports n) (Refused NoPort) (Port n (port.Offer byte))
+
+-- The reply `r` and the machine `after` are what the route answers on the machine `before`, and a route that is refused leaves the
+-- machine as it was, in every field.
+pub record CarriesOut (route : Route) (before : Machine) (r : Reply) (after : Machine) : Type 0 where
+  pub answer : replied r (machine_of after) ≡ carried_out route (machine_of before)
+  pub same : (r.refusal ≡ not_refused → ⊥) → after ≡ before

@@ -8,12 +8,11 @@ use Rattle.devices.specs.Apbuart.View.{port_of}
 use Rattle.bus.specs.Board.{gr712rc}
 use Rattle.bus.specs.Machine as bus
 use Rattle.bus.specs.Call as call
-use Rattle.bus.specs.Route.{replied, carried_out}
+use Rattle.bus.specs.Route.{replied}
 use Rattle.bus.specs.declared.machine.Machine.{Machine}
 use Rattle.bus.specs.declared.machine.Answer.{Answer}
 use Rattle.bus.specs.declared.machine.Call.{Call}
 use Rattle.bus.specs.declared.reply.Reply.{Reply}
-use Rattle.bus.specs.declared.route.Route.{Route}
 
 -- "The build is a model of one GR712RC board"
 abbrev pub machine_of : Machine → bus.Machine
@@ -38,8 +37,8 @@ pub record Conforms (m : Machine) (c : Call) (a : Answer) : Type 0 where
   pub answer : answer_of a ≡ call.answer c (machine_of m)
   pub same : (a.refusal ≡ not_refused → ⊥) → a.machine ≡ m
 
--- The reply `r` and the machine `after` are what the route answers on the machine `before`, and a route that is refused leaves the
--- machine as it was, in every field.
-pub record CarriesOut (route : Route) (before : Machine) (r : Reply) (after : Machine) : Type 0 where
-  pub answer : replied r (machine_of after) ≡ carried_out route (machine_of before)
+-- The reply `r` and the machine `after` are what a call on the machine `before` answers; where the call is refused the machine is left
+-- as it was, in every field.
+pub record Replies (before : Machine) (c : Call) (r : Reply) (after : Machine) : Type 0 where
+  pub answer : replied r (machine_of after) ≡ call.answer c (machine_of before)
   pub same : (r.refusal ≡ not_refused → ⊥) → after ≡ before

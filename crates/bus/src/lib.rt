@@ -8,3 +8,4 @@ pub mod machine;
 pub mod refusal;
 pub mod reply;
 pub mod route;
+pub mod well_formed;

@@ -1,15 +1,16 @@
 // The machine, six serial ports, a timer unit and an interrupt controller, as a state by value, and the calls on it. Each public
 // call answers what `specs/Machine.antt` and `specs/Call.antt` define, whatever the machine and the arguments.
-ghost use Rattle.std.specs.Prelude.{◌≡◌, ◌<◌, true, cond, get_or};
+ghost use Rattle.std.specs.Prelude.{◌≡◌, ◌<◌, true, cond, get_or, map};
 ghost use Rattle.devices.specs.Answer.View.{number_in, value_in};
+ghost use Rattle.devices.specs.Apbuart.View.{port_of};
 ghost use Rattle.devices.specs.Irqmp as irq;
 ghost use Rattle.bus.specs.Machine as bus;
 ghost use Rattle.bus.specs.Board.{gr712rc};
 ghost use Rattle.bus.specs.Time as time;
-ghost use Rattle.bus.specs.Route.{port_exists, replied, value_answer, Leads};
-ghost use Rattle.bus.specs.View.{machine_of, Conforms, CarriesOut};
+ghost use Rattle.bus.specs.Route.{port_exists, replied, value_answer};
+ghost use Rattle.bus.specs.View.{machine_of, Conforms, Replies};
+ghost use Rattle.bus.specs.Private.{CarriesOut};
 ghost use Rattle.bus.specs.declared.machine.Call.TheVariants as calls;
-ghost use Rattle.bus.specs.declared.route.Route.{Route};
 ghost use Rattle.bus.specs.declared.route.Route.TheVariants as to;
 
 use crate::board::{Board, Lines};
@@ -83,7 +84,7 @@ impl Machine {
     pub fn well_formed(self) -> bool
         ensures { result ≡ bus.well_formed (machine_of self) }
     {
-        self.ports.iter().all(|port| port.well_formed()) && self.irqmp.well_formed()
+        all_well_formed(&self.ports) && self.irqmp.well_formed()
     }
 
     // The line levels as they are, bit p for port p.
@@ -182,10 +183,8 @@ impl Machine {
         ensures { Conforms self call result }
     {
         let mut reply = Reply::refused(Refusal::IllFormed.number());
-        if self.well_formed() {
-            let mut keep = |said: Reply, _: Machine| reply = said;
-            self.carry_out(call, &mut keep);
-        }
+        let mut keep = |said: Reply, _: Machine| reply = said;
+        self.carry_out(call, &mut keep);
         Answer {
             refusal: reply.refusal,
             emitted: reply.emitted,
@@ -197,21 +196,23 @@ impl Machine {
         }
     }
 
-    // Makes a call on a well-formed machine where it lies, and tells the reply and the machine after it: for `call`, and for the loop
-    // of a run (crate `script`). What changes is stored: devices, the prescaler's value alone, or at a reset the machine.
+    // Makes a call where the machine lies, and tells the reply and the machine after it.
     #[inline(always)]
     pub fn carry_out<F: FnMut(Reply, Machine)>(&mut self, call: Call, tell: &mut F)
         requires { (reply : _) (after : _) → F.pre tell.old reply after }
-        ensures { (route : Route) × Leads gr712rc call route ×
-            (reply : _) × CarriesOut route self.old reply self.new × F.step tell.old reply self.new tt tell.new }
+        ensures { (reply : _) × Replies self.old call reply self.new × F.step tell.old reply self.new tt tell.new }
     {
-        self.follow(Route::of(Self::BOARD, call), tell)
+        if self.well_formed() {
+            self.follow(Route::of(Self::BOARD, call), tell)
+        } else {
+            tell(Reply::refused(Refusal::IllFormed.number()), *self)
+        }
     }
 
-    // Does what a route says. Each arm tells its own reply: as a result, logged behind the match, it took a run 30 instructions a
+    // Does what a route says; what changes is stored: devices, the prescaler's value alone, or at a reset the machine. Each arm tells its own reply: as a result, logged behind the match, it took a run 30 instructions a
     // record. The hints put the arms into the loop.
     #[inline(always)]
-    fn follow<F: FnMut(Reply, Machine)>(&mut self, route: Route, tell: &mut F)
+    pub(crate) fn follow<F: FnMut(Reply, Machine)>(&mut self, route: Route, tell: &mut F)
         requires port_is_there { port_exists gr712rc.ports route ≡ true }
         requires may_tell { (reply : _) (after : _) → F.pre tell.old reply after }
         ensures { (reply : _) × CarriesOut route self.old reply self.new × F.step tell.old reply self.new tt tell.new }
@@ -265,7 +266,7 @@ impl Machine {
         let answer = before.call(call);
         self.ports[n] = answer.device;
         self.irqmp = Self::after_port(n, before.level, answer.device.level, self.irqmp);
-        Reply::of_port(answer)
+        Reply::of_port(answer.number(), answer.done())
     }
 
     // The timer unit or the controller answers a read.
@@ -308,6 +309,12 @@ impl Machine {
         self.irqmp = Self::after_pulses(elapsed.pulses, self.irqmp);
         Reply::of_span(elapsed.cycles, elapsed.pulses)
     }
+}
+
+fn all_well_formed(ports: &[Apbuart]) -> bool
+    ensures { result ≡ bus.all_well (map port_of ports.now) }
+{
+    ports.iter().all(|port| port.well_formed())
 }
 
 // What a device answered is stored in its place, and replied.

@@ -1,15 +1,15 @@
 // What a call answers, but for the machine after it and that machine's line levels: the fields of `machine::Answer` without
 // those two. What its kind does not produce is 0. Each function promises what the answer is with any machine after the call
 // (`replied`).
-ghost use Rattle.std.specs.Prelude.{◌≡◌};
+ghost use Rattle.std.specs.Prelude.{◌≡◌, is_some, unwrap_or};
 ghost use Rattle.devices.specs.Answer.View.{number_in, value_in};
-ghost use Rattle.devices.specs.Apbuart.View as uart;
+ghost use Rattle.devices.specs.Apbuart.{Port};
 ghost use Rattle.bus.specs.Machine as bus;
 ghost use Rattle.bus.specs.Route as routes;
 
 use crate::refusal::NOT_REFUSED;
 use devices::answer::Answer;
-use devices::apbuart;
+use devices::apbuart::Done;
 
 #[derive(Clone, Copy, Debug, PartialEq, Eq)]
 pub struct Reply {
@@ -48,13 +48,18 @@ impl Reply {
         Self::valued(answer.number(), answer.value())
     }
 
-    // A port's own answer, with its number.
-    pub fn of_port(answer: apbuart::Answer) -> Self
-        ensures { routes.replied result ≡ routes.port_answer (uart.answer_of answer) }
+    // What a port answered: a refusal number, and what was done.
+    pub fn of_port(number: u8, done: Done) -> Self
+        ensures { (port : Port) → routes.replied result ≡ routes.port_answer (record {
+          refusal = number;
+          value = done.value;
+          emitted = is_some done.emitted;
+          byte = unwrap_or done.emitted 0;
+          port = port;
+        }) }
     {
-        let done = answer.done();
         Reply {
-            refusal: answer.number(),
+            refusal: number,
             emitted: done.emitted,
             value: done.value,
             cycles: 0,

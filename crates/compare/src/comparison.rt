@@ -1,7 +1,7 @@
 // A comparison of two logs, which may be longer than memory: it is begun with the first bytes of each and goes on piece by piece.
 // What a call does not take of a piece is given again, with more bytes of that log behind it; at the end all that is left of each
 // log is given to `end`.
-ghost use Rattle.std.specs.Prelude.{◌≡◌, false, ◌≤◌, length, IfNone, IfSome};
+ghost use Rattle.std.specs.Prelude.{◌≡◌, false, ◌+◌, ◌≤◌, min, length, IfNone, IfSome};
 ghost use Rattle.script.specs.Format.{number_of};
 ghost use Rattle.script.specs.Log.{layout};
 ghost use Rattle.compare.specs.Verdict as verdicts;
@@ -101,16 +101,23 @@ fn compare_records(before: u64, first: &[u8], second: &[u8]) -> Step
     match differing_record(first, second, count) {
         Some(same) => Step {
             comparison: Comparison::Decided(Verdict::Record {
-                number: before.saturating_add(same as u64 + 1),
+                number: plus(before, same as u64 + 1),
                 field: differing_field(&first[same], &second[same]),
             }),
             taken: 0,
         },
         None => Step {
-            comparison: Comparison::Undecided(before.saturating_add(count as u64)),
+            comparison: Comparison::Undecided(plus(before, count as u64)),
             taken: entry::LENGTH * count,
         },
     }
+}
+
+// A count with more added to it. It stays at the largest number.
+fn plus(count: u64, more: u64) -> u64
+    ensures { result ≡ min (count + more) comparisons.largest }
+{
+    count.saturating_add(more)
 }
 
 // The first of so many records that differs. (A `zip` of the two, or this loop as a part of its caller's code, takes three to six

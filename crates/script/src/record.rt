@@ -9,16 +9,24 @@ use bus::machine::Call;
 // A record's length.
 pub const LENGTH: usize = 16;
 
-// The kinds, by a record's first byte.
+// The kinds, each with the number that a record's first byte gives it.
 #[derive(Clone, Copy, Debug, PartialEq, Eq)]
 pub enum Kind {
-    Read,
-    Write,
-    Offer,
-    Advance,
-    Skip,
-    Reset,
-    Acknowledge,
+    Read = 1,
+    Write = 2,
+    Offer = 3,
+    Advance = 4,
+    Skip = 5,
+    Reset = 6,
+    Acknowledge = 7,
+}
+
+impl Kind {
+    pub fn number(self) -> u8
+        ensures { result ≡ scripts.kind_number self }
+    {
+        self as u8
+    }
 }
 
 // No kind has the byte.

@@ -1,8 +1,5 @@
 // A run of script records on a machine, and what the program does with a piece of its input.
-ghost use Rattle.std.specs.Prelude.{◌≡◌, cond, true, ◌+◌, ◌*◌, ◌/◌, ◌%◌, ◌≤◌, ◌<◌, min, eqb, length, take, drop};
-ghost use Rattle.bus.specs.Board.{gr712rc};
-ghost use Rattle.bus.specs.Machine.{well_formed};
-ghost use Rattle.bus.specs.Route.{Leads};
+ghost use Rattle.std.specs.Prelude.{◌≡◌, cond, ◌+◌, ◌*◌, ◌/◌, ◌%◌, ◌≤◌, ◌<◌, min, eqb, length, take, drop};
 ghost use Rattle.bus.specs.View as bus;
 ghost use Rattle.script.specs.Script as scripts;
 ghost use Rattle.script.specs.Log as logs;
@@ -14,6 +11,7 @@ use crate::record::decode;
 use crate::{entry, record};
 use bus::machine::Machine;
 use bus::refusal::NOT_REFUSED;
+use bus::well_formed::WellFormed;
 use devices::refusal::Refusal;
 
 // What a run answers.
@@ -63,19 +61,18 @@ fn run_records(machine: Machine, script: &[u8], log: &mut [u8], count: usize) ->
     Ran {
         refusal: NOT_REFUSED,
         done: count,
-        machine: play(machine, script, log, count),
+        machine: play(WellFormed { machine }, script, log, count),
     }
 }
 
 // Every call on a well-formed machine leaves one, so the test for 9 is once a run. The machine is a local of this loop, which is not
 // moved: what a call changes is stored in it.
-fn play(machine: Machine, script: &[u8], log: &mut [u8], count: usize) -> Machine
+fn play(begun: WellFormed, script: &[u8], log: &mut [u8], count: usize) -> Machine
     requires records_there { scripts.record_length * count < length script.now + scripts.record_length }
     requires log_has_room { logs.entry_length * count ≤ length log.old }
-    requires machine_well_formed { well_formed (bus.machine_of machine) ≡ true }
-    ensures { Played (runs.ran count script.now log.old (bus.machine_of machine)) result log.new }
+    ensures { Played (runs.ran count script.now log.old (bus.machine_of begun.machine)) result log.new }
 {
-    let mut machine = machine;
+    let mut machine = begun;
     // By places: over the script's chunks a record takes 12 instructions more, and of mutable chunks of the log the library says too little.
     for i in 0..count {
         let at = entry::LENGTH * i;
@@ -83,7 +80,7 @@ fn play(machine: Machine, script: &[u8], log: &mut [u8], count: usize) -> Machin
         let mut put = |reply, after| entry::put(log, at, reply, after);
         machine.carry_out(call, &mut put);
     }
-    machine
+    machine.machine
 }
 
 // The record at a place; the last may be cut short.

@@ -1,5 +1,6 @@
-// Reading and writing, for programs. A call that fails says so on standard error, by the name that it is given. A proved loop has to
-// end, and nothing says that a file does: the loops count their turns, up to a number that no run uses up.
+// Reading and writing, for programs. A call that fails says so on standard error, by the name that it is given; `read_full` alone has
+// none, and says nothing. A proved loop has to end, and nothing says that a file does: the loops count their turns, up to a number that
+// no run uses up, but for one that fills a buffer.
 #![tactic(auto)]
 
 ghost use Rattle.std.specs.Prelude.{◌≤◌, length, IfOk, IfErr};

@@ -1,5 +1,5 @@
--- What comes of a route on a machine of the code, from what its device answered: for whoever carries routes out, by value
--- (`Machine::call`) or where the machine lies (a run). Assumes nothing.
+-- What comes of a route on a machine of the code, from what its device answered: for the arms that carry routes out, of a single call
+-- and of a run. Assumes nothing.
 use Rattle.std.specs.Prelude.{ℕ, zero, suc, Option, Some, ◌*◌, ◌^◌, ◌<◌, ◌≡◌, true, cond, List, [], ◌∷◌, map, length, set}
 use Rattle.std.proofs.Math.Path.{refl, sym, ap}
 use Rattle.std.proofs.Common.{◌∙◌, arith, Fits, ltb-true}
@@ -37,7 +37,8 @@ use Rattle.bus.specs.Time as time
 use Rattle.bus.specs.Time.{lines_of, pulsed, rises}
 use Rattle.bus.proofs.Laws.Time.{still, quiet_lines, port_step, of_unit, advance_unit, skip_unit}
 use Rattle.bus.specs.Route.{replied, port_answer, value_answer, span_answer, passes, carried_out, port_exists, Leads}
-use Rattle.bus.specs.View.{machine_of, CarriesOut}
+use Rattle.bus.specs.View.{machine_of}
+use Rattle.bus.specs.Private.{CarriesOut}
 use Rattle.bus.specs.declared.machine.Machine.{Machine}
 use Rattle.bus.specs.declared.machine.Call as machine
 use Rattle.bus.specs.declared.reply.Reply.{Reply}

@@ -5,9 +5,10 @@ use mathlib.Core.Bool.{Bool, true, false}
 use Rattle.devices.specs.Refusal.{ill_formed}
 use Rattle.bus.specs.Board.{gr712rc}
 use Rattle.bus.specs.Machine as bus
-use Rattle.bus.proofs.Laws.Call.{ill_refused}
+use Rattle.bus.proofs.Laws.Call.{ill_refused, answer_keeps}
 use Rattle.bus.specs.Route.{replied, Leads}
-use Rattle.bus.specs.View.{machine_of, Conforms, CarriesOut}
+use Rattle.bus.specs.View.{machine_of, Conforms, Replies}
+use Rattle.bus.specs.Private.{CarriesOut}
 use Rattle.bus.specs.declared.machine.Machine.{Machine}
 use Rattle.bus.specs.declared.machine.Answer.{Answer}
 use Rattle.bus.specs.declared.machine.Call.{Call}
@@ -27,21 +28,26 @@ made r levels next =
       machine = next;
     }
 
--- By the test for 9: `after` and `reply`, where the two ways meet, are what the route left and says, or the machine itself and 9.
-module _
-    {m after next : Machine} {k : Call} {reply r : Reply} {b : Bool} {levels : ℕ} (l : levels ≡ bus.levels (machine_of after))
-    (e : b ≡ bus.well_formed (machine_of m)) (leaves : after ≡ next) (replies : reply ≡ r) where
-  pub well_called :
-      {route : Route} → b ≡ true → Leads gr712rc k route → CarriesOut route m r next → Conforms m k (made reply levels after)
-  well_called t led carried =
-      rw (replies, leaves)
-      (record {
-        answer = rw (l, leaves) (carried.answer ∙ sym (led.answers (machine_of m) refl (sym e ∙ t)));
-        same = carried.same;
-      })
+-- By the test for 9.
+module _ {m next : Machine} {k : Call} {r : Reply} {b : Bool} (e : b ≡ bus.well_formed (machine_of m)) where
+  pub well_replied : {route : Route} → b ≡ true → Leads gr712rc k route → CarriesOut route m r next → Replies m k r next
+  well_replied t led carried =
+      record { answer = carried.answer ∙ sym (led.answers (machine_of m) refl (sym e ∙ t)); same = carried.same }
 
-  pub ill_called : b ≡ false → replied r ≡ bus.refused ill_formed → next ≡ m → Conforms m k (made reply levels after)
-  ill_called t says same =
+  pub ill_replied : b ≡ false → replied r ≡ bus.refused ill_formed → next ≡ m → Replies m k r next
+  ill_replied t says left =
       let whole : replied r (machine_of m) ≡ bus.refused ill_formed (machine_of m) = ap (λ f. f (machine_of m)) says in
-      rw (replies, leaves, same)
-      (record { answer = rw (l, leaves, same) (whole ∙ sym (ill_refused k (machine_of m) (sym e ∙ t))); same = λ refused. refl })
+      record { answer = rw left (whole ∙ sym (ill_refused k (machine_of m) (sym e ∙ t))); same = λ refused. left }
+
+-- No call makes an ill-formed machine.
+pub stays_well :
+    (m next : Machine) (k : Call) (r : Reply) → bus.well_formed (machine_of m) ≡ true → Replies m k r next →
+    bus.well_formed (machine_of next) ≡ true
+stays_well m next k r well says =
+    ap (λ (a : bus.Answer). bus.well_formed a.machine) says.answer ∙ answer_keeps k (machine_of m) ∙ well
+
+-- The answer made of what is kept of the reply, and of the machine after the call.
+pub answered :
+    {m next : Machine} {k : Call} {reply r : Reply} {levels : ℕ} → levels ≡ bus.levels (machine_of next) → reply ≡ r →
+    Replies m k r next → Conforms m k (made reply levels next)
+answered l kept says = rw kept (record { answer = rw l says.answer; same = says.same })

@@ -1,21 +1,19 @@
 -- The loop over the records: the machine and the log so far are the slow run's. Assumes nothing.
 use Prim.Native.Nat.{ℕ, ◌+◌, ◌*◌, ◌≤◌, ◌<◌}
 use mathlib.Core.Path.{◌≡◌, refl, sym, ap, ◌∙◌}
-use mathlib.Core.Bool.{true}
 use mathlib.Core.List.{List, [], ◌∷◌, ◌++◌, append-nil}
 use native.Mathlib.Omega.{arith}
 use native.Mathlib.Nat.{zero-add}
 use lib.ListN.{length, take, drop}
-use Rattle.bus.specs.Board.{gr712rc}
 use Rattle.bus.specs.Machine as bus
 use Rattle.bus.specs.Call.{answer}
 use Rattle.bus.specs.SlowRun.{answers}
-use Rattle.bus.proofs.Laws.SlowRun.{answers_append, after_append, after_keeps}
-use Rattle.bus.specs.Route.{replied, Leads}
-use Rattle.bus.specs.View.{machine_of, CarriesOut}
+use Rattle.bus.proofs.Laws.SlowRun.{answers_append, after_append}
+use Rattle.bus.specs.Route.{replied}
+use Rattle.bus.specs.View.{machine_of, Replies}
 use Rattle.bus.specs.declared.machine.Machine.{Machine}
 use Rattle.bus.specs.declared.reply.Reply.{Reply}
-use Rattle.bus.specs.declared.route.Route.{Route}
+use Rattle.bus.specs.declared.machine.Call.{Call}
 use Rattle.script.specs.Buffer.{wrote}
 use Rattle.script.specs.Script as scripts
 use Rattle.script.specs.Script.{call_in, calls}
@@ -33,18 +31,15 @@ pub none_played : (script log : List ℕ) (m : Machine) → Played (ran 0 script
 none_played script log m = record { log = none_written log 0; machine = refl }
 
 pub one_more :
-    (script log₀ : List ℕ) (m₀ : bus.Machine) (i count : ℕ) (m next : Machine) (log bytes : List ℕ) (route : Route) (reply : Reply) →
+    (script log₀ : List ℕ) (m₀ : bus.Machine) (i count : ℕ) (m next : Machine) (log bytes : List ℕ) (call : Call) (reply : Reply) →
     Played (ran i script log₀ m₀) m log →
-    Leads gr712rc (call_in (take scripts.record_length (drop (scripts.record_length * i) script))) route →
-    bus.well_formed m₀ ≡ true → i < count → logs.entry_length * count ≤ length log₀ →
-    bytes ≡ wrote log (logs.entry_length * i) (entry (replied reply (machine_of next))) →
-    CarriesOut route m reply next → Played (ran (i + 1) script log₀ m₀) next bytes
-one_more script log₀ m₀ i count m next log bytes route reply so_far led well within fits put carried =
+    call ≡ call_in (take scripts.record_length (drop (scripts.record_length * i) script)) → i < count →
+    logs.entry_length * count ≤ length log₀ → bytes ≡ wrote log (logs.entry_length * i) (entry (replied reply (machine_of next))) →
+    Replies m call reply next → Played (ran (i + 1) script log₀ m₀) next bytes
+one_more script log₀ m₀ i count m next log bytes call reply so_far read within fits put says =
     let c = call_in (take scripts.record_length (drop (scripts.record_length * i) script)) in
-    let still : bus.well_formed (machine_of m) ≡ true =
-    ap bus.well_formed so_far.machine ∙ after_keeps (calls i script) m₀ ∙ well in
     let a = replied reply (machine_of next) in
-    let answered : answer c (machine_of m) ≡ a = led.answers (machine_of m) refl still ∙ sym carried.answer in
+    let answered : answer c (machine_of m) ≡ a = rw (← read) (sym says.answer) in
     let before = entries (answers (calls i script) m₀) in
     let more : entries (answers (calls (i + 1) script) m₀) ≡ before ++ entry a =
     rw (

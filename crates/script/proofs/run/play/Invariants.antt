@@ -7,4 +7,4 @@ use Rattle.script.proofs.run.play.Given as goal
 
 abbrev pub invariant-loop-i : goal.invariant-loop-i
 invariant-loop-i l =
-    (length l.log ≡ length l.fn.log) × Played (ran l.i l.script l.fn.log (machine_of l.fn.machine)) l.machine l.log
+    (length l.log ≡ length l.fn.log) × Played (ran l.i l.script l.fn.log (machine_of l.fn.begun.machine)) l.machine.machine l.log
