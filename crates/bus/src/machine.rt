@@ -209,8 +209,8 @@ impl Machine {
         }
     }
 
-    // Does what a route says; what changes is stored: devices, the prescaler's value alone, or at a reset the machine. Each arm tells its own reply: as a result, logged behind the match, it took a run 30 instructions a
-    // record. The hints put the arms into the loop.
+    // Does what a route says. What changes is stored: devices, the prescaler's value alone, or at a reset the machine. Each arm tells
+    // its own reply: as a result, logged behind the match, it took a run 30 instructions a record. The hints put the arms into the loop.
     #[inline(always)]
     pub(crate) fn follow<F: FnMut(Reply, Machine)>(&mut self, route: Route, tell: &mut F)
         requires port_is_there { port_exists gr712rc.ports route ≡ true }

@@ -1,4 +1,4 @@
-// A machine that is known to be well formed, which no call changes: a loop of calls, as the run of a script is, judges 9 once.
+// A machine that is known to be well formed, and stays so whatever call is made on it: a loop of calls, as a run is, judges 9 once.
 ghost use Rattle.std.specs.Prelude.{◌≡◌, true};
 ghost use Rattle.bus.specs.Machine.{well_formed};
 ghost use Rattle.bus.specs.View.{machine_of};
